@@ -1,0 +1,164 @@
+-- The rules of the park file (01, "Where each thing is checked"): the table row by row, and the refusal that it puts first.
+-- A file is accepted when no row is broken. No other condition refuses.
+-- Assumes nothing.
+use Prim.Native.Nat.{ℕ, suc, _+_, _*_, _-_, _/_, _%_}
+use mathlib.Core.Path.{_≡_}
+use mathlib.Core.Bool.{Bool, true, false, cond, not, _&&_, _||_}
+use mathlib.Core.List.{List, [], _∷_, _++_}
+use mathlib.Core.Option.{Option, none, some}
+use lib.Dec.{ltb, leb, eqb}
+use lib.ListN.{length, getD}
+use Rattle.park_format.specs.Park.{Park, parkOf, inputs}
+use Rattle.park_format.specs.declared.header.Header.{Header}
+use Rattle.park_format.specs.declared.site.Site.{Site}
+use Rattle.park_format.specs.declared.line.Line.{Line}
+use Rattle.park_format.specs.declared.rule.Refusal.{Refusal}
+use Rattle.park_format.specs.declared.rule.Verdict.{Verdict}
+use Rattle.park_format.specs.declared.rule.Verdict.the-variants.{Accepted, Refused}
+
+-- a row of the table: the rule's number, the place, and whether the rule is broken there
+pub data Row : Type 0 where
+  rule : ℕ → ℕ → Bool → Row
+
+-- number and place of the first broken row, if there is one
+unfoldable pub firstBroken : List Row → Option (ℕ × ℕ)
+firstBroken [] = none
+firstBroken (rule number place broken ∷ rows) = cond broken (some (number, place)) (firstBroken rows)
+
+-- number and place of each case of the reply; `none` is accepted
+abbrev pub refusalOf : Verdict → Option (ℕ × ℕ)
+refusalOf Accepted = none
+refusalOf (Refused r) = some (r .number, r .place)
+
+-- most hours a month may state, January to December
+abbrev pub monthHours : List ℕ
+monthHours = 744 ∷ 696 ∷ 743 ∷ 720 ∷ 744 ∷ 720 ∷ 744 ∷ 744 ∷ 720 ∷ 745 ∷ 720 ∷ 744 ∷ []
+
+-- the letters PRK, lowest byte first
+abbrev pub parkMark : ℕ
+parkMark = 0x4b5250
+
+abbrev pub zeroOrAbove : ℕ → ℕ → Bool
+zeroOrAbove most x = eqb x 0 || ltb most x
+
+-- 0 for a number that is no month
+unfoldable pub mostHours : ℕ → ℕ
+mostHours month = cond (zeroOrAbove 12 month) 0 (getD monthHours (month - 1) 0)
+
+-- the meters that a mark is the sum of: 1 reactive consumption, 2 generation, 4 night-valley generation
+abbrev pub measuresReactive : ℕ → Bool
+measuresReactive mark = eqb (mark % 2) 1
+
+abbrev pub measuresGenerated : ℕ → Bool
+measuresGenerated mark = eqb (mark / 2 % 2) 1
+
+abbrev pub measuresNight : ℕ → Bool
+measuresNight mark = eqb (mark / 4 % 2) 1
+
+-- 14 + 11s + 21n
+abbrev pub sizeOf : Header → ℕ
+sizeOf h = 14 + 11 * h .sites + 21 * h .lines
+
+-- 2 to 9: header and length
+unfoldable pub headerRules : ℕ → Header → List Row
+headerRules size h =
+    rule 2 0 (not (eqb (h .mark) parkMark))
+    ∷ rule 3 0 (not (eqb (h .version) 1))
+    ∷ rule 4 0 (zeroOrAbove 12 (h .month))
+    ∷ rule 5 0 (zeroOrAbove 16 (h .sites))
+    ∷ rule 6 0 (zeroOrAbove 64 (h .lines))
+    ∷ rule 7 0 (zeroOrAbove 2000000 (h .price))
+    ∷ rule 8 0 (ltb (mostHours (h .month)) (h .hours))
+    ∷ rule 9 0 (not (eqb size (sizeOf h)))
+    ∷ []
+
+-- 12: Q or P above 20,000, or not 0 while the flag is 0
+abbrev pub wrongInstalled : ℕ → ℕ → Bool
+wrongInstalled flag x = ltb 20000 x || (eqb flag 0 && not (eqb x 0))
+
+-- 12: Q or P breaks it
+abbrev pub installedWrongly : Site → Bool
+installedWrongly x = wrongInstalled (x .devices) (x .compensation) || wrongInstalled (x .devices) (x .motors)
+
+-- 10 to 13: one site
+unfoldable pub siteRules : ℕ → Site → List Row
+siteRules k x =
+    rule 10 k (zeroOrAbove 1000000 (x .power))
+    ∷ rule 11 k (ltb 1 (x .devices))
+    ∷ rule 12 k (installedWrongly x)
+    ∷ rule 13 k (ltb 1000 (x .discount))
+    ∷ []
+
+-- 14: an end above s
+abbrev pub endAbove : ℕ → Line → Bool
+endAbove s l = ltb s (l .from) || ltb s (l .to)
+
+-- 14: both ends 0
+abbrev pub bothNetwork : Line → Bool
+bothNetwork l = eqb (l .from) 0 && eqb (l .to) 0
+
+-- 14: two sites with from not below to
+abbrev pub backwards : Line → Bool
+backwards l = not (eqb (l .from) 0) && (not (eqb (l .to) 0) && leb (l .to) (l .from))
+
+-- 14: any of these
+abbrev pub wrongEnds : ℕ → Line → Bool
+wrongEnds s l = endAbove s l || (bothNetwork l || backwards l)
+
+-- 15: mark above 7, or holding 4 without 2
+abbrev pub wrongMeters : ℕ → Bool
+wrongMeters mark = ltb 7 mark || (measuresNight mark && not (measuresGenerated mark))
+
+-- 17: a reading above 10,000,000
+abbrev pub readingAbove : Line → Bool
+readingAbove l = ltb 10000000 (l .active) || (ltb 10000000 (l .reactive) || (ltb 10000000 (l .generated) || ltb 10000000 (l .night)))
+
+-- 18: a reading not 0 without its meter
+abbrev pub withoutMeter : Bool → ℕ → Bool
+withoutMeter metered reading = not metered && not (eqb reading 0)
+
+-- 18: a reading not 0 without its meter, or WN above WG
+abbrev pub wrongReadings : Line → Bool
+wrongReadings l =
+    withoutMeter (measuresReactive (l .meters)) (l .reactive)
+    || (withoutMeter (measuresGenerated (l .meters)) (l .generated)
+    || (withoutMeter (measuresNight (l .meters)) (l .night)
+    || ltb (l .generated) (l .night)))
+
+-- 14 to 18: one line of a park of s sites
+unfoldable pub lineRules : ℕ → ℕ → Line → List Row
+lineRules s k l =
+    rule 14 k (wrongEnds s l)
+    ∷ rule 15 k (wrongMeters (l .meters))
+    ∷ rule 16 k (zeroOrAbove 5000 (l .eerp))
+    ∷ rule 17 k (readingAbove l)
+    ∷ rule 18 k (wrongReadings l)
+    ∷ []
+
+abbrev pub isEmpty {ℓ} : {A : Type ℓ} → List A → Bool
+isEmpty [] = true
+isEmpty (x ∷ xs) = false
+
+-- 19: a site has no input line; as the rows stand in the order of the sites, the first broken one is the lowest such site
+unfoldable pub inputRules : List Line → ℕ → Site → List Row
+inputRules lines k x = rule 19 k (isEmpty (inputs k lines)) ∷ []
+
+-- the rules of each record of a list, in order; the first record's place is k
+unfoldable pub each {ℓ} : {A : Type ℓ} → (ℕ → A → List Row) → ℕ → List A → List Row
+each rules k [] = []
+each rules k (x ∷ xs) = rules k x ++ each rules (suc k) xs
+
+-- the whole table of a park, read from a file of that many bytes
+unfoldable pub rulesOf : ℕ → Park → List Row
+rulesOf size p =
+    (rule 1 0 (ltb size 14) ∷ headerRules size (p .header))
+    ++ (each siteRules 1 (p .sites)
+    ++ (each (lineRules (p .header .sites)) 1 (p .lines)
+    ++ each (inputRules (p .lines)) 1 (p .sites)))
+
+unfoldable pub refusal : List ℕ → Option (ℕ × ℕ)
+refusal file = firstBroken (rulesOf (length file) (parkOf file))
+
+-- no row is broken
+abbrev pub IsAccepted : List ℕ → Type 0
+IsAccepted file = refusal file ≡ none

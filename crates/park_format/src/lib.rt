@@ -1,0 +1,10 @@
+// The park file: its records, its rules, and the check of a whole file.
+mod fed;
+pub mod file;
+pub mod header;
+pub mod line;
+mod number;
+pub mod rule;
+pub mod site;
+
+pub use file::check;
