@@ -3,17 +3,17 @@
 use Prim.Native.Nat.{ℕ, zero, suc, _+_, _-_, _*_, _≤_, _<_}
 use native.Mathlib.Omega.{arith}
 use native.Mathlib.Nat.{le-of-suc-le-suc, not-suc-le-zero, add-zero, add-suc, suc-add, add-sub-of-le}
-use mathlib.Core.Path.{_≡_, refl, sym, ap, subst, _∙_}
-use mathlib.Core.Bool.{Bool, true, false, not, _&&_, _||_, true≢false}
+use mathlib.Core.Path.{_≡_, refl, ap}
+use mathlib.Core.Bool.{Bool, true, false, not, _&&_, _||_}
 use mathlib.Core.List.{List, [], _∷_, _++_}
-use mathlib.Core.Option.{Option, none, some}
+use mathlib.Core.Option.{none}
 use lib.Dec.{eqb, ltb, leb}
 use lib.ListN.{length}
 use borrow.Author.Tests.{eqb-true, eqb-false, ltb-false, leb-false, not-false, ne-eqb, eq-eqb}
-use Rattle.park_format.specs.Park.{parkOf, siteAt, sitesOf, inputs}
-use Rattle.park_format.specs.Rules.{Row, firstBroken, headerRules, siteRules, lineRules, inputRules, each, rulesOf, refusal, IsAccepted, wrongInstalled, withoutMeter, measuresReactive, measuresGenerated, measuresNight, isEmpty, parkMark, sizeOf, mostHours, zeroOrAbove, installedWrongly, wrongEnds, wrongMeters, readingAbove, wrongReadings, endAbove, bothNetwork, backwards}
+use Rattle.park_format.specs.Park.{parkOf, siteAt, sitesOf, lineAt, linesOf, inputs}
+use Rattle.park_format.specs.Rules.{Row, firstBroken, headerRules, siteRules, lineRules, inputRules, each, rulesOf, refusal, wrongDevice, withoutMeter, measuresReactive, measuresGenerated, measuresNight, isEmpty, parkMark, sizeOf, mostHours, endAbove, bothNetwork, backwards}
 use Rattle.park_format.specs.Rules.Row.{rule}
-use Rattle.park_format.specs.Accepted.{KeptHeader, KeptSite, KeptLine, Kept, Every}
+use Rattle.park_format.specs.Accepted.{KeptHeader, KeptSite, KeptLine, Every, Guarantee}
 use Rattle.park_format.specs.declared.header.Header.{Header}
 use Rattle.park_format.specs.declared.site.Site.{Site}
 use Rattle.park_format.specs.declared.line.Line.{Line}
@@ -48,12 +48,12 @@ kept-header size h e =
       lines = within 64 (h .lines) (w .1 .1 .1 .1 .0);
       price = within 2000000 (h .price) (w .1 .1 .1 .1 .1 .0);
       hours = ltb-false (mostHours (h .month)) (h .hours) (w .1 .1 .1 .1 .1 .1 .0);
-      whole = equal size (sizeOf h) (w .1 .1 .1 .1 .1 .1 .1 .0);
+      size = equal size (sizeOf h) (w .1 .1 .1 .1 .1 .1 .1 .0);
     }
 
 -- rule 12 of one of Q and P
-kept-installed : (flag x : ℕ) → wrongInstalled flag x ≡ false → (x ≤ 20000) × (flag ≡ 0 → x ≡ 0)
-kept-installed flag x e =
+kept-device : (flag x : ℕ) → wrongDevice flag x ≡ false → (x ≤ 20000) × (flag ≡ 0 → x ≡ 0)
+kept-device flag x e =
     let w = or-false (ltb 20000 x) (eqb flag 0 && not (eqb x 0)) e in
     (ltb-false 20000 x (w .0), λ z. equal x 0 (and-false (eqb flag 0) (not (eqb x 0)) (w .1) (eq-eqb flag 0 z)))
 
@@ -61,15 +61,15 @@ pub kept-site : (k : ℕ) (x : Site) → firstBroken (siteRules k x) ≡ none �
 unfolding siteRules
 kept-site k x e =
     let w = whole (siteRules k x) e in
-    let i = or-false (wrongInstalled (x .devices) (x .compensation)) (wrongInstalled (x .devices) (x .motors)) (w .1 .1 .0) in
-    let q = kept-installed (x .devices) (x .compensation) (i .0) in
-    let p = kept-installed (x .devices) (x .motors) (i .1) in
+    let i = or-false (wrongDevice (x .devices) (x .compensation)) (wrongDevice (x .devices) (x .motors)) (w .1 .1 .0) in
+    let q = kept-device (x .devices) (x .compensation) (i .0) in
+    let p = kept-device (x .devices) (x .motors) (i .1) in
     record {
       power = within 1000000 (x .power) (w .0);
       devices = ltb-false 1 (x .devices) (w .1 .0);
       compensation = q .0;
       motors = p .0;
-      idle = λ z. (q .1 z, p .1 z);
+      withoutDevices = λ z. (q .1 z, p .1 z);
       discount = ltb-false 1000 (x .discount) (w .1 .1 .1 .0);
     }
 
@@ -96,23 +96,23 @@ kept-line s k l e =
     record {
       from = ltb-false s (l .from) (above .0);
       to = ltb-false s (l .to) (above .1);
-      joins = λ a b. eqb-false (l .to) 0 (and-false (eqb (l .from) 0) (eqb (l .to) 0) (drawn .0) (eq-eqb (l .from) 0 a)) b;
+      notBothNetwork = λ a b. eqb-false (l .to) 0 (and-false (eqb (l .from) 0) (eqb (l .to) 0) (drawn .0) (eq-eqb (l .from) 0 a)) b;
       forward =
           λ a b. leb-false (l .to) (l .from)
           (and-false (not (eqb (l .to) 0)) (leb (l .to) (l .from))
           (and-false (not (eqb (l .from) 0)) (not (eqb (l .to) 0) && leb (l .to) (l .from)) (drawn .1) (ap not (ne-eqb (l .from) 0 a)))
           (ap not (ne-eqb (l .to) 0 b)));
       meters = ltb-false 7 m (marks .0);
-      valley = λ n. not-false (measuresGenerated m) (and-false (measuresNight m) (not (measuresGenerated m)) (marks .1) n);
+      nightGenerated = λ n. not-false (measuresGenerated m) (and-false (measuresNight m) (not (measuresGenerated m)) (marks .1) n);
       eerp = within 5000 (l .eerp) (w .1 .1 .0);
       active = ltb-false 10000000 (l .active) (r1 .0);
       reactive = ltb-false 10000000 (l .reactive) (r2 .0);
       generated = ltb-false 10000000 (l .generated) (r3 .0);
       night = ltb-false 10000000 (l .night) (r3 .1);
-      unmeasured = kept-reading (measuresReactive m) (l .reactive) (m1 .0);
-      ungenerated = kept-reading (measuresGenerated m) (l .generated) (m2 .0);
-      unvalleyed = kept-reading (measuresNight m) (l .night) (m3 .0);
-      part = ltb-false (l .generated) (l .night) (m3 .1);
+      unmeteredReactive = kept-reading (measuresReactive m) (l .reactive) (m1 .0);
+      unmeteredGenerated = kept-reading (measuresGenerated m) (l .generated) (m2 .0);
+      unmeteredNight = kept-reading (measuresNight m) (l .night) (m3 .0);
+      nightWithin = ltb-false (l .generated) (l .night) (m3 .1);
     }
 
 module _ {ℓ} {A : Type ℓ} (g : ℕ → A → List Row) where
@@ -134,8 +134,8 @@ fed-from lines k (suc i) (x ∷ xs) e h =
     (fed-from lines (suc k) i xs (first-none (inputRules lines k x) (each (inputRules lines) (suc k) xs) e .1) (le-of-suc-le-suc h))
 
 -- an accepted file keeps every rule
-pub kept : (file : List ℕ) → IsAccepted file → Kept (length file) (parkOf file)
-unfolding refusal rulesOf parkOf sitesOf
+pub kept : Guarantee
+unfolding refusal rulesOf parkOf sitesOf linesOf
 kept file e =
     let p = parkOf file in
     let s = p .header .sites in
@@ -149,6 +149,8 @@ kept file e =
     let length-sites = length-listOf (λ (i : ℕ). siteAt file (14 + 11 * i)) s in
     record {
       header = kept-header (length file) (p .header) (first-none (rule 1 0 (ltb (length file) 14) ∷ []) (headerRules (length file) (p .header)) (a .0) .1);
+      siteCount = length-sites;
+      lineCount = length-listOf (λ (i : ℕ). lineAt file (14 + 11 * s + 21 * i)) (p .header .lines);
       sites = each-kept siteRules KeptSite kept-site 1 (p .sites) (b .0);
       lines = each-kept (lineRules s) (KeptLine s) (kept-line s) 1 (p .lines) (c .0);
       fed = λ k h l. rw (← (add-sub-of-le h)) (fed-from (p .lines) 1 (k - 1) (p .sites) (c .1) (omega arith));

@@ -1,16 +1,20 @@
 -- Laws of a set's digits: of a union, of one digit, of a complement, and of the zeros below the lowest digit.
 -- Assumes nothing.
-use Prim.Native.Nat.{ℕ, zero, suc, _+_, _-_, _*_, _/_, _%_, _^_, _≤_, _<_, zero-le, suc-le-suc}
+use Prim.Native.Nat.{ℕ, zero, suc, _+_, _-_, _*_, _/_, _%_, _^_, _≤_, _<_, suc-le-suc}
 use native.Mathlib.Nat.{pow-suc, not-suc-le-zero, le-of-suc-le-suc, lt-of-lt-of-le, mod-eq-of-lt, one-mul}
 use native.Mathlib.Omega.{arith}
-use mathlib.Core.Path.{_≡_, refl, sym, ap, _∙_, subst}
-use mathlib.Core.Bool.{Bool, true, false, not, _||_}
+use mathlib.Core.Path.{_≡_, refl, sym, ap, _∙_}
+use mathlib.Core.Bool.{true, false, not, _||_}
 use lib.Dec.{eqb, eqb·zero-suc, eqb·suc-zero, eqb·suc-suc, lit≤}
-use lib.Bits.{bitOr, or-shr, or-mod}
+use lib.Bits.{bitAnd, bitOr, and-mask, or-shr, or-mod}
 use lib.Pow.{pow-mono}
 use lib.Count.{trailingZeros, under, trailing-le}
 use borrow.Author.Tests.{not-true, not-false}
 use Rattle.park_format.specs.Set.{has, Lowest}
+
+-- the lowest digit, by a mask
+pub low-digit : (x : ℕ) → eqb (bitAnd x 1) 1 ≡ eqb (x % 2) 1
+low-digit x = ap (λ (digit : ℕ). eqb digit 1) (and-mask x 1)
 
 -- a digit is 0 or 1
 digit {ℓ} : (P : ℕ → Type ℓ) (x : ℕ) → x < 2 → P 0 → P 1 → P x

@@ -4,10 +4,11 @@ use Prim.Native.Nat.{ℕ, _+_, _*_}
 use mathlib.Core.List.{List}
 use lib.ListN.{getD}
 
--- the byte at a position; 0 past the end, where no accepted file is read
+-- the byte at a position; 0 past the end, which only a file that 1 or 9 refuses comes to
 abbrev pub byte : List ℕ → ℕ → ℕ
 byte file at = getD file at 0
 
+-- the number in two, three or four bytes from a position on
 abbrev pub number2 : List ℕ → ℕ → ℕ
 number2 file at = byte file at + 256 * byte file (at + 1)
 

@@ -33,7 +33,7 @@ siteAt file at =
       discount = number2 file (at + 9);
     }
 
--- from (1), to (1), meter mark (1), EERP (2), and the readings WP, WQ, WG, WN (4 each)
+-- from (1) and to (1), where 0 is the network, meter mark (1), EERP (2), and the readings WP, WQ, WG, WN (4 each)
 unfoldable pub lineAt : List ℕ → ℕ → Line
 lineAt file at =
     record {
@@ -52,9 +52,11 @@ unfoldable pub listOf {ℓ} : {A : Type ℓ} → (ℕ → A) → ℕ → List A
 listOf f zero = []
 listOf f (suc n) = listOf f n ++ (f n ∷ [])
 
+-- s site records of 11 bytes after the 14 of the header
 unfoldable pub sitesOf : List ℕ → ℕ → List Site
 sitesOf file s = listOf (λ (i : ℕ). siteAt file (14 + 11 * i)) s
 
+-- n line records of 21 bytes after the sites
 unfoldable pub linesOf : List ℕ → ℕ → ℕ → List Line
 linesOf file s n = listOf (λ (i : ℕ). lineAt file (14 + 11 * s + 21 * i)) n
 
@@ -70,11 +72,13 @@ inputs k lines = select (λ (l : Line). eqb (l .to) k) lines
 abbrev pub transits : ℕ → List Line → List Line
 transits k lines = select (λ (l : Line). eqb (l .from) k) lines
 
+-- the park as values
 pub record Park : Type 0 where
   pub header : Header
   pub sites : List Site
   pub lines : List Line
 
+-- the park of a file: as many sites and lines as its header says
 unfoldable pub parkOf : List ℕ → Park
 parkOf file =
     record {

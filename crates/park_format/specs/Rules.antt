@@ -12,11 +12,11 @@ use Rattle.park_format.specs.Park.{Park, parkOf, inputs}
 use Rattle.park_format.specs.declared.header.Header.{Header}
 use Rattle.park_format.specs.declared.site.Site.{Site}
 use Rattle.park_format.specs.declared.line.Line.{Line}
-use Rattle.park_format.specs.declared.rule.Refusal.{Refusal}
 use Rattle.park_format.specs.declared.rule.Verdict.{Verdict}
 use Rattle.park_format.specs.declared.rule.Verdict.the-variants.{Accepted, Refused}
 
--- a row of the table: the rule's number, the place, and whether the rule is broken there
+-- a row of the table: the rule's number, the place, and whether the rule is broken there. The place is the site or the line, counted
+-- from 1, for 10 to 19, else 0. The rows 20 and 21 belong to the billing calls
 pub data Row : Type 0 where
   rule : ℕ → ℕ → Bool → Row
 
@@ -30,22 +30,24 @@ abbrev pub refusalOf : Verdict → Option (ℕ × ℕ)
 refusalOf Accepted = none
 refusalOf (Refused r) = some (r .number, r .place)
 
--- most hours a month may state, January to December
+-- 8: most hours a month may state, January to December
 abbrev pub monthHours : List ℕ
 monthHours = 744 ∷ 696 ∷ 743 ∷ 720 ∷ 744 ∷ 720 ∷ 744 ∷ 744 ∷ 720 ∷ 745 ∷ 720 ∷ 744 ∷ []
 
--- the letters PRK, lowest byte first
+-- 2: the letters PRK, lowest byte first: P is 0x50, R 0x52, K 0x4b
 abbrev pub parkMark : ℕ
 parkMark = 0x4b5250
 
+-- 4 to 7, 10, 16: x is 0, or above the most that it may be
 abbrev pub zeroOrAbove : ℕ → ℕ → Bool
 zeroOrAbove most x = eqb x 0 || ltb most x
 
--- 0 for a number that is no month
+-- 8: a month's most hours; 0 for a number that is no month
 unfoldable pub mostHours : ℕ → ℕ
 mostHours month = cond (zeroOrAbove 12 month) 0 (getD monthHours (month - 1) 0)
 
--- the meters that a mark is the sum of: 1 reactive consumption, 2 generation, 4 night-valley generation
+-- 15 and 18: the meters that a mark is the sum of: 1 reactive consumption, 2 generation, 4 night-valley generation. Active consumption
+-- is always metered, and has none
 abbrev pub measuresReactive : ℕ → Bool
 measuresReactive mark = eqb (mark % 2) 1
 
@@ -55,13 +57,17 @@ measuresGenerated mark = eqb (mark / 2 % 2) 1
 abbrev pub measuresNight : ℕ → Bool
 measuresNight mark = eqb (mark / 4 % 2) 1
 
--- 14 + 11s + 21n
+-- 9: 14 + 11s + 21n
 abbrev pub sizeOf : Header → ℕ
 sizeOf h = 14 + 11 * h .sites + 21 * h .lines
 
+-- 1: header
+abbrev pub startRules : ℕ → List Row
+startRules bytes = rule 1 0 (ltb bytes 14) ∷ []
+
 -- 2 to 9: header and length
 unfoldable pub headerRules : ℕ → Header → List Row
-headerRules size h =
+headerRules bytes h =
     rule 2 0 (not (eqb (h .mark) parkMark))
     ∷ rule 3 0 (not (eqb (h .version) 1))
     ∷ rule 4 0 (zeroOrAbove 12 (h .month))
@@ -69,23 +75,23 @@ headerRules size h =
     ∷ rule 6 0 (zeroOrAbove 64 (h .lines))
     ∷ rule 7 0 (zeroOrAbove 2000000 (h .price))
     ∷ rule 8 0 (ltb (mostHours (h .month)) (h .hours))
-    ∷ rule 9 0 (not (eqb size (sizeOf h)))
+    ∷ rule 9 0 (not (eqb bytes (sizeOf h)))
     ∷ []
 
--- 12: Q or P above 20,000, or not 0 while the flag is 0
-abbrev pub wrongInstalled : ℕ → ℕ → Bool
-wrongInstalled flag x = ltb 20000 x || (eqb flag 0 && not (eqb x 0))
+-- 12, of one of Q and P: above 20,000, or not 0 while the flag is 0
+abbrev pub wrongDevice : ℕ → ℕ → Bool
+wrongDevice flag x = ltb 20000 x || (eqb flag 0 && not (eqb x 0))
 
 -- 12: Q or P breaks it
-abbrev pub installedWrongly : Site → Bool
-installedWrongly x = wrongInstalled (x .devices) (x .compensation) || wrongInstalled (x .devices) (x .motors)
+abbrev pub wrongDevices : Site → Bool
+wrongDevices x = wrongDevice (x .devices) (x .compensation) || wrongDevice (x .devices) (x .motors)
 
 -- 10 to 13: one site
 unfoldable pub siteRules : ℕ → Site → List Row
 siteRules k x =
     rule 10 k (zeroOrAbove 1000000 (x .power))
     ∷ rule 11 k (ltb 1 (x .devices))
-    ∷ rule 12 k (installedWrongly x)
+    ∷ rule 12 k (wrongDevices x)
     ∷ rule 13 k (ltb 1000 (x .discount))
     ∷ []
 
@@ -135,6 +141,7 @@ lineRules s k l =
     ∷ rule 18 k (wrongReadings l)
     ∷ []
 
+-- 19: a list with no line
 abbrev pub isEmpty {ℓ} : {A : Type ℓ} → List A → Bool
 isEmpty [] = true
 isEmpty (x ∷ xs) = false
@@ -148,17 +155,18 @@ unfoldable pub each {ℓ} : {A : Type ℓ} → (ℕ → A → List Row) → ℕ 
 each rules k [] = []
 each rules k (x ∷ xs) = rules k x ++ each rules (suc k) xs
 
--- the whole table of a park, read from a file of that many bytes
+-- the whole table of a park, read from a file of that many bytes: header and length, site by site, line by line, the park
 unfoldable pub rulesOf : ℕ → Park → List Row
-rulesOf size p =
-    (rule 1 0 (ltb size 14) ∷ headerRules size (p .header))
+rulesOf bytes p =
+    (startRules bytes ++ headerRules bytes (p .header))
     ++ (each siteRules 1 (p .sites)
     ++ (each (lineRules (p .header .sites)) 1 (p .lines)
     ++ each (inputRules (p .lines)) 1 (p .sites)))
 
+-- the refusal of a file: its first broken row
 unfoldable pub refusal : List ℕ → Option (ℕ × ℕ)
 refusal file = firstBroken (rulesOf (length file) (parkOf file))
 
--- no row is broken
+-- accepted: no row is broken
 abbrev pub IsAccepted : List ℕ → Type 0
 IsAccepted file = refusal file ≡ none

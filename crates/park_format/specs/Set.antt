@@ -1,6 +1,6 @@
--- A set of sites as the binary digits of a number: site k is in it where digit k - 1, counted from the lowest, is 1.
+-- The sites with an input line as a 16-bit set (01, rule 19 and its form): site k is in it where digit k - 1, counted from the lowest, is 1.
 -- Assumes nothing.
-use Prim.Native.Nat.{ℕ, zero, suc, _+_, _/_, _%_, _≤_, _<_}
+use Prim.Native.Nat.{ℕ, zero, suc, _/_, _%_, _≤_, _<_}
 use mathlib.Core.Path.{_≡_}
 use mathlib.Core.Bool.{Bool, true, false, not}
 use mathlib.Core.List.{List}

@@ -13,7 +13,7 @@ pub fn with(fed: u16, to: u8) -> u16
     fed | ((1u32 << to) / 2) as u16
 }
 
-// How many sites from the first on are in the set: the lowest that is missing comes after them.
+// How many sites from the first on are in the set: the lowest that is missing comes after them. 16 if none is.
 pub fn before_missing(fed: u16) -> u32
     ensures { λ r. ⌜ Lowest fed r ⌝ }
 {

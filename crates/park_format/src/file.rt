@@ -19,7 +19,7 @@ pub enum Walked {
     Fed(u16),
 }
 
-// The first broken rule of the sites, in their order.
+// The first broken rule of the sites, in their order; accepted if none is broken.
 fn check_sites(file: &[u8], sites: usize) -> Verdict
     requires { ⌜ (sites ≤ 16) × (14 + 11 * sites ≤ length (now file)) ⌝ }
     ensures { λ r. ⌜ refusalOf r ≡ firstBroken (each siteRules 1 (sitesOf (now (file .entry)) sites)) ⌝ }
@@ -35,10 +35,10 @@ fn check_sites(file: &[u8], sites: usize) -> Verdict
     Verdict::Accepted
 }
 
-// The first broken rule of the lines, in their order, or the sites that they go to.
+// The first broken rule of the lines, in their order, or, if none is broken, the sites that they go to.
 fn check_lines(file: &[u8], sites: u8, lines: usize) -> Walked
-    requires { ⌜ (sites ≤ 16) × (lines ≤ 64) ⌝ }
-    requires { ⌜ 14 + 11 * sites + 21 * lines ≤ length (now file) ⌝ }
+    requires counts { ⌜ (sites ≤ 16) × (lines ≤ 64) ⌝ }
+    requires within { ⌜ 14 + 11 * sites + 21 * lines ≤ length (now file) ⌝ }
     ensures { λ r. ⌜ Walks r (firstBroken (each (lineRules sites) 1 (linesOf (now (file .entry)) sites lines))) (linesOf (now (file .entry)) sites lines) ⌝ }
 {
     let at = Header::LEN + Site::LEN * (sites as usize);

@@ -38,12 +38,14 @@ pub fn most_hours(month: u8) -> u16
 }
 
 impl Header {
+    // Bytes.
     pub const LEN: usize = 14;
-    // PRK.
+    // The letters PRK.
     pub const MARK: u32 = 0x4b5250;
 
     pub const VERSION: u16 = 1;
 
+    // Limits of rules 4 to 7.
     pub const MONTHS: u32 = 12;
 
     pub const MOST_SITES: u32 = 16;

@@ -24,8 +24,10 @@ pub struct Line {
 }
 
 impl Line {
+    // Bytes.
     pub const LEN: usize = 21;
 
+    // Limits of rules 15 to 17.
     pub const MOST_METERS: u8 = 7;
 
     pub const MOST_EERP: u32 = 5_000;
@@ -144,7 +146,7 @@ impl Line {
         self.generated < self.night
     }
 
-    // The first broken rule of the line, whose number is the place, in a park of as many sites.
+    // The first broken rule of the line at a place, which is its number, in a park of as many sites.
     pub fn check(self, sites: u8, place: u32) -> Verdict
         ensures { λ r. ⌜ refusalOf r ≡ firstBroken (lineRules sites place self) ⌝ }
     {

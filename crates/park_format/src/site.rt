@@ -6,7 +6,7 @@ ghost use mathlib.Core.Path.{_≡_};
 ghost use Prim.Native.Nat.{_+_, _≤_};
 ghost use lib.ListN.{length};
 ghost use Rattle.park_format.specs.Park.{siteAt};
-ghost use Rattle.park_format.specs.Rules.{refusalOf, firstBroken, siteRules, wrongInstalled, installedWrongly};
+ghost use Rattle.park_format.specs.Rules.{refusalOf, firstBroken, siteRules, wrongDevice, wrongDevices};
 
 pub struct Site {
     // Permitted power, kW.
@@ -22,8 +22,10 @@ pub struct Site {
 }
 
 impl Site {
+    // Bytes.
     pub const LEN: usize = 11;
 
+    // Limits of rules 10 to 13.
     pub const MOST_POWER: u32 = 1_000_000;
 
     pub const MOST_DEVICES: u8 = 1;
@@ -47,8 +49,8 @@ impl Site {
     }
 
     // Rule 12 of one of Q and P: above its most, or not 0 while there are no devices.
-    fn wrong_installed(devices: u8, installed: u16) -> bool
-        ensures { λ r. ⌜ r ≡ wrongInstalled devices installed ⌝ }
+    fn wrong_device(devices: u8, installed: u16) -> bool
+        ensures { λ r. ⌜ r ≡ wrongDevice devices installed ⌝ }
     {
         if Site::MOST_INSTALLED < installed {
             return true;
@@ -60,16 +62,16 @@ impl Site {
     }
 
     // Rule 12: Q or P breaks it.
-    fn installed_wrongly(self) -> bool
-        ensures { λ r. ⌜ r ≡ installedWrongly self ⌝ }
+    fn wrong_devices(self) -> bool
+        ensures { λ r. ⌜ r ≡ wrongDevices self ⌝ }
     {
-        if Site::wrong_installed(self.devices, self.compensation) {
+        if Site::wrong_device(self.devices, self.compensation) {
             return true;
         }
-        Site::wrong_installed(self.devices, self.motors)
+        Site::wrong_device(self.devices, self.motors)
     }
 
-    // The first broken rule of the site, whose number is the place.
+    // The first broken rule of the site at a place, which is its number.
     pub fn check(self, place: u32) -> Verdict
         ensures { λ r. ⌜ refusalOf r ≡ firstBroken (siteRules place self) ⌝ }
     {
@@ -79,7 +81,7 @@ impl Site {
             place,
             Verdict::Accepted,
         );
-        let installed = rule::first(self.installed_wrongly(), 12, place, discount);
+        let installed = rule::first(self.wrong_devices(), 12, place, discount);
         let devices = rule::first(Site::MOST_DEVICES < self.devices, 11, place, installed);
         rule::first(
             rule::zero_or_above(Site::MOST_POWER, self.power),

@@ -1,8 +1,7 @@
-use Prim.Native.Nat.{ℕ, _/_, _^_, _<_, suc-le-suc}
+use Prim.Native.Nat.{ℕ, _/_}
 use native.Mathlib.Omega.{arith}
 use mathlib.Core.Path.{ap, _∙_}
 use mathlib.Core.Bool.{Bool, _||_}
-use lib.Bits.{bitOr}
 use lib.Pow.{pow-mono}
 use Rattle.park_format.specs.Set.{has}
 use Rattle.park_format.proofs.Bits.{has-or, has-half-power, shifted}

@@ -10,7 +10,7 @@ use Rattle.park_format.proofs.file.check.Statement.{statement}
 use Rattle.park_format.proofs.file.check.Tie as tie
 
 returns : tie.Need-returns
-returns c = too-short (now (c .before .before .args .file)) (c .if1 .taken)
+returns c = too-short (now (c .before .before .args .file)) (omega arith)
 
 read-requires : tie.Need-read-requires
 read-requires c κs = search needs

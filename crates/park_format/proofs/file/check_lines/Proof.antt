@@ -1,4 +1,5 @@
 use Prim.Native.Nat.{ℕ, suc, _+_, _*_, _-_, _≤_}
+use native.Mathlib.Nat.{le-antisymm}
 use native.Mathlib.Omega.{arith}
 use native.Mathlib.Numerals.{add-one}
 use mathlib.Core.Path.{_≡_, refl, sym, ap, _∙_}
@@ -21,9 +22,6 @@ use Rattle.park_format.proofs.file.check_lines.Tie as tie
 
 abbrev reads : List ℕ → ℕ → ℕ → Line
 reads file s k = lineAt file (14 + 11 * s + 21 * k)
-
-the-end : (n i : ℕ) → i ≤ n → n ≤ i → n ≡ i
-the-end n i h l = omega arith
 
 -- one line more, and the site that it goes to
 fed-more : (set more : ℕ) (l : Line) (lines : List Line) → IsFed set lines → ((j : ℕ) → has more j ≡ (has set j || eqb (l .to) (suc j))) → IsFed more (lines ++ (l ∷ []))
@@ -123,7 +121,7 @@ unfolding linesOf
 returns-2 c =
     let file = now (c .before .before .before .args .file) in
     let s = c .before .before .before .args .sites in
-    let end = the-end (c .before .before .before .args .lines) (c .before .loop .i) (c .before .loop .inv .0) (c .loop-test .left) in (
+    let end = le-antisymm (c .loop-test .left) (c .before .loop .inv .0) in (
       sym (ap (upTo (lineRules s) (reads file s)) end ∙ c .before .loop .inv .1 .1 .0),
       rw end (c .before .loop .inv .1 .1 .1),
     )

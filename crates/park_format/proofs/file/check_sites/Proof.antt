@@ -1,6 +1,6 @@
 use Prim.Native.Nat.{ℕ, _+_, _*_, _-_, _≤_}
+use native.Mathlib.Nat.{le-antisymm}
 use native.Mathlib.Omega.{arith}
-use native.Mathlib.Numerals.{add-one}
 use mathlib.Core.Path.{_≡_, sym, ap, _∙_}
 use mathlib.Core.List.{List}
 use mathlib.Core.Option.{none}
@@ -15,9 +15,6 @@ use Rattle.park_format.proofs.file.check_sites.Tie as tie
 
 abbrev reads : List ℕ → ℕ → Site
 reads file k = siteAt file (14 + 11 * k)
-
-the-end : (n i : ℕ) → i ≤ n → n ≤ i → n ≡ i
-the-end n i h l = omega arith
 
 abbrev Inv-loop : tie.InvT-loop
 Inv-loop file sites i₀ i = (i ≤ sites) × (upTo siteRules (reads file) i ≡ none)
@@ -80,7 +77,7 @@ returns-2 : tie.Need-returns-2 Inv-loop μ-loop
 unfolding sitesOf
 returns-2 c =
     let file = now (c .before .before .before .args .file) in
-    sym (ap (upTo siteRules (reads file)) (the-end (c .before .before .before .args .sites) (c .before .loop .i) (c .before .loop .inv .0) (c .loop-test .left)) ∙ c .before .loop .inv .1)
+    sym (ap (upTo siteRules (reads file)) (le-antisymm (c .loop-test .left) (c .before .loop .inv .0)) ∙ c .before .loop .inv .1)
 
 pub check-sites-spec : {M : Type 1} → statement M
 check-sites-spec =

@@ -1,7 +1,6 @@
 use mathlib.Core.Path.{_∙_, sym}
 use Prim.Native.Nat.{_≤_}
 use Rattle.park_format.proofs.Rules.{within}
-use borrow.Author.Tests.{eq-eqb, ne-eqb}
 use native.Mathlib.Omega.{arith}
 use Rattle.park_format.specs.Rules.{mostHours}
 use borrow.Author.Needs.{needs}

@@ -1,4 +1,4 @@
-use mathlib.Core.Path.{refl, ap, sym}
+use mathlib.Core.Path.{refl, ap}
 use mathlib.Core.Bool.{not}
 use lib.Dec.{eqb, ltb}
 use Prim.Native.Nat.{ℕ}

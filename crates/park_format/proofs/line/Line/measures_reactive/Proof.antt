@@ -1,12 +1,9 @@
-use mathlib.Core.Path.{ap}
-use Prim.Native.Nat.{ℕ}
-use lib.Bits.{and-mask}
-use lib.Dec.{eqb}
+use Rattle.park_format.proofs.Bits.{low-digit}
 use Rattle.park_format.proofs.line.Line.measures_reactive.Statement.{statement}
 use Rattle.park_format.proofs.line.Line.measures_reactive.Tie as tie
 
 returns : tie.Need-returns
-returns c = ap (λ (bit : ℕ). eqb bit 1) (and-mask (c .before .args .self .meters) 1)
+returns c = low-digit (c .before .args .self .meters)
 
 pub measures-reactive-spec : {M : Type 1} → statement M
 measures-reactive-spec = tie.close (tie.spec returns)

@@ -8,8 +8,8 @@ use Rattle.park_format.proofs.site.Site.check.Tie as tie
 first-requires : tie.Need-first-requires
 first-requires c κs = search needs
 
-installed-wrongly-requires : tie.Need-installed-wrongly-requires
-installed-wrongly-requires c κs = search needs
+wrong-devices-requires : tie.Need-wrong-devices-requires
+wrong-devices-requires c κs = search needs
 
 first-requires-2 : tie.Need-first-requires-2
 first-requires-2 c κs = search needs
@@ -30,7 +30,7 @@ returns c =
     found-by (siteRules (a .place) (a .self))
     (row-first (c .first4 .ensures) (c .before .zero-or-above .ensures)
     (row-first (c .before .before .first3 .ensures) refl
-    (row-first (c .before .before .before .before .first2 .ensures) (c .before .before .before .before .before .installed-wrongly .ensures)
+    (row-first (c .before .before .before .before .first2 .ensures) (c .before .before .before .before .before .wrong-devices .ensures)
     (row-first (c .before .before .before .before .before .before .first .ensures) refl
     no-rows))))
 
@@ -39,7 +39,7 @@ check-spec =
     tie.close
     (tie.spec
     first-requires
-    installed-wrongly-requires
+    wrong-devices-requires
     first-requires-2
     first-requires-3
     zero-or-above-requires

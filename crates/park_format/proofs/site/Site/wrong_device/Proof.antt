@@ -1,6 +1,6 @@
 use borrow.Author.Tests.{lt-ltb, le-ltb, eq-eqb, ne-eqb}
-use Rattle.park_format.proofs.site.Site.wrong_installed.Statement.{statement}
-use Rattle.park_format.proofs.site.Site.wrong_installed.Tie as tie
+use Rattle.park_format.proofs.site.Site.wrong_device.Statement.{statement}
+use Rattle.park_format.proofs.site.Site.wrong_device.Tie as tie
 
 returns : tie.Need-returns
 returns c = simp (lt-ltb _ _ (c .if1 .taken))
@@ -11,5 +11,5 @@ returns-2 c = simp (le-ltb _ _ (c .before .if1 .left), eq-eqb _ _ (c .if2 .taken
 returns-3 : tie.Need-returns-3
 returns-3 c = simp (le-ltb _ _ (c .before .if1 .left), ne-eqb _ _ (c .if2 .left))
 
-pub wrong-installed-spec : {M : Type 1} → statement M
-wrong-installed-spec = tie.close (tie.spec returns returns-2 returns-3)
+pub wrong-device-spec : {M : Type 1} → statement M
+wrong-device-spec = tie.close (tie.spec returns returns-2 returns-3)
