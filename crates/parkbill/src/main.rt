@@ -1,11 +1,14 @@
-// Reads a park file from standard input and prints what its check says.
+// Reads a park file from standard input and prints the bill of each site, or the refusal.
 use libc::STDIN_FILENO;
 use libc::STDOUT_FILENO;
+use park_bill::call::ParkReply;
 use park_format::rule::Refusal;
-use park_format::rule::Verdict;
 
-// More than the longest file that is accepted, so that a longer one is refused for its length.
+// The longest accepted file has 1,534 bytes. A longer one is refused for its length, since there is room for more.
 const ROOM: usize = 2048;
+
+// Eleven numbers for each of 16 sites.
+const NUMBERS: usize = 176;
 
 fn print_refusal(r: Refusal) {
     io::write_all(STDOUT_FILENO, b"refused,");
@@ -15,13 +18,47 @@ fn print_refusal(r: Refusal) {
     io::write_all(STDOUT_FILENO, b"\n");
 }
 
+// A line of a site: its number, and then each number of its part of the list.
+fn print_site(site: u64, numbers: &[u64]) {
+    io::print_decimal(STDOUT_FILENO, site);
+    let mut i = 0;
+    while i < numbers.len() {
+        io::write_all(STDOUT_FILENO, b",");
+        io::print_decimal(STDOUT_FILENO, numbers[i]);
+        i += 1;
+    }
+    io::write_all(STDOUT_FILENO, b"\n");
+}
+
+// The line of names, and a line for each site; no more sites than the list has room for.
+fn print_bill(sites: u64, list: &[u64]) {
+    io::write_all(
+        STDOUT_FILENO,
+        b"site,consumption,tg,settled,cut,generation,pc,pg,p2,p3,total,reason\n",
+    );
+    let most = list.len() / 11;
+    let mut k = 0;
+    while k < most {
+        if sites <= k as u64 {
+            return;
+        }
+        let at = 11 * k;
+        print_site(k as u64 + 1, &list[at..at + 11]);
+        k += 1;
+    }
+}
+
 fn main() {
     let mut buffer = [0u8; ROOM];
+    let mut list = [0u64; NUMBERS];
     let n = io::read_full(STDIN_FILENO, &mut buffer);
-    let verdict = park_format::check(&buffer[..n]);
-    let Verdict::Refused(r) = verdict else {
-        io::write_all(STDOUT_FILENO, b"accepted\n");
+    let reply = park_bill::bill_park(&buffer[..n], &mut list);
+    let ParkReply::Billed(sites) = reply else {
+        let ParkReply::Refused(r) = reply else {
+            return;
+        };
+        print_refusal(r);
         return;
     };
-    print_refusal(r);
+    print_bill(sites, &list);
 }

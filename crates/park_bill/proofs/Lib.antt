@@ -1,0 +1,11 @@
+pub mod Signed
+pub mod Room
+pub mod Sums
+pub mod Walks
+pub mod Parks
+pub mod Choices
+pub mod Small
+pub mod Bills
+pub mod Sites
+pub mod Refusals
+pub mod Stretches

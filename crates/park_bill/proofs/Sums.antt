@@ -1,0 +1,78 @@
+-- Laws of sums over a list: of two lists together, of the values that pass a test, of values that are bounded, and of a count of failures.
+-- Assumes nothing.
+use Prim.Native.Nat.{ℕ, zero, suc, _+_, _*_, _≤_, zero-le}
+use native.Mathlib.Numerals.{one-add}
+use native.Mathlib.Nat.{zero-add, mul-suc, add-comm, add-le-add, le-trans, mul-le-mul-left}
+use native.Mathlib.Omega.{arith}
+use mathlib.Core.Path.{_≡_, refl, ap, _∙_}
+use mathlib.Core.Bool.{Bool, true, false, cond, _&&_}
+use mathlib.Core.List.{List, [], _∷_, _++_}
+use lib.Dec.{eqb, eqb·suc-zero}
+use lib.ListN.{length}
+use Rattle.park_bill.specs.Sums.{sumBy, allOf}
+use Rattle.park_bill.specs.Totals.{lacking, when}
+use Rattle.park_format.specs.Park.{select}
+use Rattle.park_format.specs.Accepted.{Every}
+
+lacking-more : (b : Bool) (n : ℕ) {all : Bool} → eqb n 0 ≡ all → eqb (lacking b + n) 0 ≡ (b && all)
+lacking-more true n e = ap (λ (m : ℕ). eqb m 0) (zero-add n) ∙ e
+lacking-more false n e = ap (λ (m : ℕ). eqb m 0) (one-add n) ∙ eqb·suc-zero n
+
+module _ {ℓ} {A : Type ℓ} where
+  pub sumBy-append : (f : A → ℕ) (xs ys : List A) → sumBy f (xs ++ ys) ≡ sumBy f xs + sumBy f ys
+  unfolding sumBy
+  sumBy-append f [] ys = omega arith
+  sumBy-append f (x ∷ xs) ys = omega (arith, sumBy-append f xs ys)
+
+  -- one value more at the end
+  pub sumBy-snoc : (f : A → ℕ) (xs : List A) (y : A) → sumBy f (xs ++ (y ∷ [])) ≡ sumBy f xs + f y
+  unfolding sumBy
+  sumBy-snoc f xs y = sumBy-append f xs (y ∷ []) ∙ omega arith
+
+  pub sumBy-select : (f : A → ℕ) (test : A → Bool) (xs : List A) → sumBy f (select test xs) ≡ sumBy (λ (x : A). when (test x) (f x)) xs
+  unfolding sumBy select
+  sumBy-select f test [] = refl
+  sumBy-select f test (x ∷ xs) = by (sumBy-select f test xs) (test x)
+    where
+      by : sumBy f (select test xs) ≡ sumBy (λ (y : A). when (test y) (f y)) xs → (b : Bool) → sumBy f (cond b (x ∷ select test xs) (select test xs)) ≡ when b (f x) + sumBy (λ (y : A). when (test y) (f y)) xs
+      by e true = ap (λ (n : ℕ). f x + n) e
+      by e false = e ∙ omega arith
+
+  pub sumBy-le : (f : A → ℕ) (most : ℕ) (xs : List A) → Every (λ (x : A). f x ≤ most) xs → sumBy f xs ≤ most * length xs
+  unfolding sumBy
+  sumBy-le f most [] e = zero-le
+  sumBy-le f most (x ∷ xs) e = rw (mul-suc, add-comm (most * length xs) most) (add-le-add (e .0) (sumBy-le f most xs (e .1)))
+
+  -- none fails the test exactly where all pass
+  pub none-lacking : (test : A → Bool) (xs : List A) → eqb (sumBy (λ (x : A). lacking (test x)) xs) 0 ≡ allOf test xs
+  unfolding sumBy allOf
+  none-lacking test [] = refl
+  none-lacking test (x ∷ xs) = lacking-more (test x) (sumBy (λ (y : A). lacking (test y)) xs) (none-lacking test xs)
+
+  pub every-map : (P Q : A → Type 0) → ((x : A) → P x → Q x) → (xs : List A) → Every P xs → Every Q xs
+  every-map P Q f [] e = tt
+  every-map P Q f (x ∷ xs) e = (f x (e .0), every-map P Q f xs (e .1))
+
+  pub every-select : (P : A → Type 0) (test : A → Bool) (xs : List A) → Every P xs → Every P (select test xs)
+  unfolding select
+  every-select P test [] e = tt
+  every-select P test (x ∷ xs) e = by (every-select P test xs (e .1)) (test x)
+    where
+      by : Every P (select test xs) → (b : Bool) → Every P (cond b (x ∷ select test xs) (select test xs))
+      by rest true = (e .0, rest)
+      by rest false = rest
+
+  pub length-select : (test : A → Bool) (xs : List A) → length (select test xs) ≤ length xs
+  unfolding select
+  length-select test [] = zero-le
+  length-select test (x ∷ xs) = by (length-select test xs) (test x)
+    where
+      by : length (select test xs) ≤ length xs → (b : Bool) → length (cond b (x ∷ select test xs) (select test xs)) ≤ suc (length xs)
+      by rest true = omega arith
+      by rest false = omega arith
+
+  -- a sum over the values that pass a test, of a list of at most 64 values that are each bounded
+  pub sum-small : (P : A → Type 0) (f : A → ℕ) (most : ℕ) → ((x : A) → P x → f x ≤ most) → (test : A → Bool) (xs : List A) → Every P xs → length xs ≤ 64 → sumBy f (select test xs) ≤ most * 64
+  sum-small P f most small test xs e h =
+      le-trans (sumBy-le f most (select test xs) (every-select (λ (x : A). f x ≤ most) test xs (every-map P (λ (x : A). f x ≤ most) small xs e)))
+      (mul-le-mul-left most (le-trans (length-select test xs) h))

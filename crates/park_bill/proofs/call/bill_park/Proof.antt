@@ -1,0 +1,108 @@
+use Prim.Native.Nat.{ℕ, _*_, _≤_, _<_}
+use mathlib.Core.Logic.{_⊎_, inr}
+use mathlib.Core.Path.{_≡_, sym, ap, subst, _∙_}
+use mathlib.Core.List.{List, _++_}
+use mathlib.Core.Option.{Option}
+use native.Mathlib.Omega.{arith}
+use borrow.Author.Tests.{lt-ltb, le-ltb}
+use denote.Ref.{now}
+use lib.ListN.{length, drop}
+use Rattle.park_format.specs.Park.{headerOf, parkOf}
+use Rattle.park_format.specs.Rules.{IsAccepted, refusalOf}
+use Rattle.park_format.specs.declared.header.Header.{Header}
+use Rattle.park_bill.specs.Reply.{answer, billsOf, unlessRefused}
+use Rattle.park_bill.proofs.Parks.{header-kept}
+use Rattle.park_bill.proofs.Refusals.{file-first, call-refuses, call-allows}
+use borrow.Author.Needs.{needs}
+use Rattle.park_bill.proofs.call.bill_park.Statement.{statement}
+use Rattle.park_bill.proofs.call.bill_park.Tie as tie
+
+-- the outcome and the list, by what the call's refusal comes to
+abbrev outcome : List ℕ → Option (ℕ × ℕ) → (ℕ × ℕ) ⊎ ℕ
+outcome file refused = answer refused (parkOf file .header .sites)
+
+abbrev left : List ℕ → List ℕ → Option (ℕ × ℕ) → List ℕ
+left file before refused = unlessRefused refused (billsOf (parkOf file) (parkOf file .header .sites) ++ drop (11 * parkOf file .header .sites) before) before
+
+-- once the header is read: the file is accepted
+module _ (c : tie.After-read) where
+  abbrev file-of : List ℕ
+  file-of = now (c .before .before .before .before .before .before .args .file)
+
+  accepted : IsAccepted file-of
+  accepted = sym (c .before .before .before .check .ensures) ∙ ap refusalOf (c .before .enum-told .given .1)
+
+  sites-are : c .read .result .sites ≡ parkOf file-of .header .sites
+  unfolding parkOf
+  sites-are = ap (λ (h : Header). h .sites) (c .read .ensures)
+
+check-requires : tie.Need-check-requires
+check-requires c κs = search needs
+
+enum-known-r : tie.Need-enum-known-r
+enum-known-r c = search needs
+
+returns : tie.Need-returns
+returns c =
+    let s = c .before .before .before .before .before .before .args in
+    let e = file-first (now (s .file)) _ (sym (ap refusalOf (c .before .r .given .1)) ∙ c .before .before .before .check .ensures) in
+    (sym (ap (outcome (now (s .file))) e), sym (ap (left (now (s .file)) (now (s .list))) e))
+
+enum-told : tie.Need-enum-told
+enum-told c = search needs
+
+read-requires : tie.Need-read-requires
+read-requires c κs =
+    let h = header-kept (now (c .before .before .before .before .before .args .file)) (sym (c .before .before .check .ensures) ∙ ap refusalOf (c .enum-told .given .1)) in
+    omega arith
+
+cast-if1 : tie.Need-cast-if1
+cast-if1 c = search needs
+
+mul-if1 : tie.Need-mul-if1
+mul-if1 c = search needs
+
+returns-2 : tie.Need-returns-2
+returns-2 c =
+    let s = c .before .before .before .before .before .before .before .before .args in
+    let short = subst (λ (n : ℕ). length (now (s .list)) < 11 * n) (sites-are (c .before .before)) (c .if1 .taken) in
+    let e = call-refuses (now (s .file)) 21 0 _ (accepted (c .before .before)) (lt-ltb _ _ short) in
+    (sym (ap (outcome (now (s .file))) e), sym (ap (left (now (s .file)) (now (s .list))) e))
+
+fill-requires : tie.Need-fill-requires
+fill-requires c κs = ((accepted (c .before .before .before), c .before .before .before .read .ensures), c .before .if1 .left)
+
+cast-t14 : tie.Need-cast-t14
+cast-t14 c = search needs
+
+same-length : tie.Need-same-length
+same-length c = search needs
+
+returns-3 : tie.Need-returns-3
+returns-3 c =
+    let s = c .before .before .before .before .before .before .before .before .before .before .before .before .before .args in
+    let same = sites-are (c .before .before .before .before .before .before .before) in
+    let long = subst (λ (n : ℕ). 11 * n ≤ length (now (s .list))) same (c .before .before .before .before .before .if1 .left) in
+    let e = call-allows (now (s .file)) 21 0 _ (accepted (c .before .before .before .before .before .before .before)) (le-ltb _ _ long) in (
+      ap inr same ∙ sym (ap (outcome (now (s .file))) e),
+      c .before .before .before .fill .ensures
+          ∙ ap (λ (n : ℕ). billsOf (parkOf (now (s .file))) n ++ drop (11 * n) (now (s .list))) same
+          ∙ sym (ap (left (now (s .file)) (now (s .list))) e),
+    )
+
+pub bill-park-spec : {M : Type 1} → statement M
+bill-park-spec =
+    tie.close
+    (tie.spec
+    check-requires
+    enum-known-r
+    returns
+    enum-told
+    read-requires
+    cast-if1
+    mul-if1
+    returns-2
+    fill-requires
+    cast-t14
+    same-length
+    returns-3)

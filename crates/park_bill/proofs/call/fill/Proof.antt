@@ -1,0 +1,168 @@
+use Prim.Native.Nat.{ℕ, _+_, _*_, _-_, _≤_, _<_}
+use native.Mathlib.Nat.{le-antisymm}
+use native.Mathlib.Omega.{arith}
+use mathlib.Core.Path.{_≡_, refl, sym, ap, subst, _∙_}
+use mathlib.Core.List.{List, _++_}
+use borrow.Author.Needs.{needs}
+use denote.Ref.{now}
+use lib.ListN.{length, drop}
+use Rattle.park_format.specs.Park.{headerOf, parkOf}
+use Rattle.park_format.specs.Rules.{IsAccepted}
+use Rattle.park_format.specs.declared.header.Header.{Header}
+use Rattle.park_bill.specs.Bill.{words}
+use Rattle.park_bill.specs.Reply.{billsOf}
+use Rattle.park_bill.proofs.Parks.{header-kept}
+use Rattle.park_bill.proofs.Sites.{tangents-room, fresh, walked-site}
+use Rattle.park_bill.proofs.Stretches.{length-part, length-written, next-stretch, no-stretch}
+use Rattle.park_bill.proofs.call.fill.Statement.{statement}
+use Rattle.park_bill.proofs.call.fill.Tie as tie
+
+abbrev Inv-loop : tie.InvT-loop
+Inv-loop file header list₀ sums flows sites k₀ list k =
+    (k ≤ sites)
+    × ((sites ≡ header .sites)
+    × ((length list ≡ length list₀)
+    × (list ≡ billsOf (parkOf file) k ++ drop (11 * k) list₀)))
+
+abbrev μ-loop : tie.MeasureT-loop
+μ-loop file header list₀ sums flows sites k₀ list k = sites - k
+
+sixteen : (file : List ℕ) (h : Header) → IsAccepted file → h ≡ headerOf file → h .sites ≤ 16
+sixteen file h accepted read = subst (λ (x : Header). x .sites ≤ 16) (sym read) (header-kept file accepted .sites .1)
+
+wide : (k : ℕ) → 11 * k + 11 - 11 * k ≡ 11
+wide k = omega arith
+
+few : (s : tie.Start Inv-loop μ-loop) → s .args .header .sites ≤ 16
+few s = sixteen (now (s .args .file)) (s .args .header) (s .pre .0 .0) (s .pre .0 .1)
+
+add-up-requires : tie.Need-add-up-requires Inv-loop μ-loop
+add-up-requires c κs = c .before .before .pre .0
+
+start-requires : tie.Need-start-requires Inv-loop μ-loop
+start-requires c κs = let s = c .before .before .before in tangents-room (now (s .args .file)) (s .pre .0 .0) (s .args .header) (s .pre .0 .1) (c .add-up .result) (c .add-up .ensures)
+
+drain-requires : tie.Need-drain-requires Inv-loop μ-loop
+drain-requires c κs = let s = c .before .before .before .before in (s .pre .0, fresh (now (s .args .file)) (s .pre .0 .0) (s .args .header) (s .pre .0 .1) (c .before .add-up .result) (c .before .add-up .ensures) (c .start .result) (c .start .ensures))
+
+cast-sites : tie.Need-cast-sites Inv-loop μ-loop
+cast-sites c = search needs
+
+loop-holds : tie.Need-loop-holds Inv-loop μ-loop
+loop-holds c = (search needs, (refl, (refl, no-stretch _ _)))
+
+mul-at : tie.Need-mul-at Inv-loop μ-loop
+mul-at c = omega (arith, c .loop-test .taken, c .before .loop .inv, few (c .before .before .before .before .before .before .before .before))
+
+add-next : tie.Need-add-next Inv-loop μ-loop
+add-next c = omega (arith, c .loop-test .taken, c .before .loop .inv, few (c .before .before .before .before .before .before .before .before))
+
+mul-input : tie.Need-mul-input Inv-loop μ-loop
+mul-input c = search needs
+
+element-copy-out-input : tie.Need-element-copy-out-input Inv-loop μ-loop
+element-copy-out-input c = omega (arith, c .loop-test .taken, c .before .loop .inv, few (c .before .before .before .before .before .before .before .before))
+
+mul-transit : tie.Need-mul-transit Inv-loop μ-loop
+mul-transit c = search needs
+
+element-copy-out-transit : tie.Need-element-copy-out-transit Inv-loop μ-loop
+element-copy-out-transit c = omega (arith, c .before .loop-test .taken, c .before .before .loop .inv, few (c .before .before .before .before .before .before .before .before .before))
+
+mul-flow : tie.Need-mul-flow Inv-loop μ-loop
+mul-flow c = search needs
+
+array-copy-out-flow : tie.Need-array-copy-out-flow Inv-loop μ-loop
+array-copy-out-flow c = omega (arith, c .before .before .loop-test .taken, c .before .before .before .loop .inv, few (c .before .before .before .before .before .before .before .before .before .before))
+
+bill-at-requires : tie.Need-bill-at-requires Inv-loop μ-loop
+bill-at-requires c κs =
+    let s = c .before .before .before .before .before .before .before .before .before .before .before in (
+      s .pre .0,
+      walked-site (now (s .args .file)) (s .pre .0 .0) (s .args .header) (s .pre .0 .1) (c .before .before .before .before .before .before .before .before .add-up .result) (c .before .before .before .before .before .before .before .before .add-up .ensures) (c .before .before .before .before .before .before .before .start .result) (c .before .before .before .before .before .before .before .start .ensures) (c .before .before .before .before .before .before .drain .result) (c .before .before .before .before .before .before .drain .ensures)
+          (c .before .before .before .before .loop .k + 1) (omega arith) (omega (arith, c .before .before .before .loop-test .taken, c .before .before .before .before .loop .inv)),
+    )
+
+add-write : tie.Need-add-write Inv-loop μ-loop
+add-write c = omega (arith, c .before .before .before .before .loop-test .taken, c .before .before .before .before .before .loop .inv, few (c .before .before .before .before .before .before .before .before .before .before .before .before))
+
+mul-write : tie.Need-mul-write Inv-loop μ-loop
+mul-write c = search needs
+
+sub-write : tie.Need-sub-write Inv-loop μ-loop
+sub-write c = search needs
+
+part-write-start : tie.Need-part-write-start Inv-loop μ-loop
+part-write-start c = search needs
+
+part-write-end : tie.Need-part-write-end Inv-loop μ-loop
+part-write-end c = omega (arith, c .before .before .before .before .loop-test .taken, c .before .before .before .before .before .loop .inv, c .before .before .before .before .before .before .before .before .before .before .before .before .pre .1)
+
+write-requires : tie.Need-write-requires Inv-loop μ-loop
+write-requires c κs =
+    let l = c .before .before .before .before .before .before .loop in
+    length-part (11 * l .k) _ (l .list) (omega (arith, c .before .before .before .before .before .loop-test .taken, l .inv, c .before .before .before .before .before .before .before .before .before .before .before .before .before .pre .1)) ∙ wide (l .k)
+
+add-k : tie.Need-add-k Inv-loop μ-loop
+add-k c = omega (arith, c .before .before .before .before .before .before .before .before .loop-test .taken, c .before .before .before .before .before .before .before .before .before .loop .inv, few (c .before .before .before .before .before .before .before .before .before .before .before .before .before .before .before .before))
+
+loop-less : tie.Need-loop-less Inv-loop μ-loop
+loop-less c = search needs
+
+loop-again : tie.Need-loop-again Inv-loop μ-loop
+loop-again c =
+    let l = c .before .before .before .before .before .before .before .before .before .loop in
+    let s = c .before .before .before .before .before .before .before .before .before .before .before .before .before .before .before .before in
+    let part = c .before .before .write .last .1 .0 in
+    let new = c .before .before .write .ensures ∙ ap words (c .before .before .before .before .bill-at .ensures) in (
+      omega (arith, c .before .before .before .before .before .before .before .before .loop-test .taken, l .inv),
+      (
+        l .inv .1 .0,
+        (
+          length-written (11 * l .k) _ (l .list) (omega (arith, c .before .before .before .before .before .before .before .before .loop-test .taken, l .inv, s .pre .1)) part (ap length new ∙ sym (wide (l .k))) ∙ l .inv .1 .1 .0,
+          next-stretch (parkOf (now (s .args .file))) (l .k) _ (l .list) (now (s .args .list)) part (wide (l .k)) (l .inv .1 .1 .1) new,
+        ),
+      ),
+    )
+
+same-length : tie.Need-same-length Inv-loop μ-loop
+same-length c = search needs
+
+returns : tie.Need-returns Inv-loop μ-loop
+returns c =
+    let l = c .before .loop in
+    let s = c .before .before .before .before .before .before .before .before in
+    let end : l .k ≡ s .args .header .sites = le-antisymm (l .inv .0) (c .loop-test .left) in
+    l .inv .1 .1 .1 ∙ ap (λ (n : ℕ). billsOf (parkOf (now (s .args .file))) n ++ drop (11 * n) (now (s .args .list))) end
+
+pub fill-spec : {M : Type 1} → statement M
+fill-spec =
+    tie.close
+    (tie.spec
+    Inv-loop
+    μ-loop
+    add-up-requires
+    start-requires
+    drain-requires
+    cast-sites
+    loop-holds
+    mul-at
+    add-next
+    mul-input
+    element-copy-out-input
+    mul-transit
+    element-copy-out-transit
+    mul-flow
+    array-copy-out-flow
+    bill-at-requires
+    add-write
+    mul-write
+    sub-write
+    part-write-start
+    part-write-end
+    write-requires
+    add-k
+    loop-less
+    loop-again
+    same-length
+    returns)

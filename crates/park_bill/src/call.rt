@@ -1,0 +1,124 @@
+// The two billing calls.
+use crate::site;
+use crate::site::Bill;
+use crate::totals::Flow;
+use crate::totals::Inputs;
+use crate::totals::Transits;
+use crate::walk;
+use park_format::header::Header;
+use park_format::rule::Refusal;
+use park_format::rule::Verdict;
+use park_format::site::Site;
+ghost use mathlib.Core.Path.{_≡_};
+ghost use mathlib.Core.List.{_++_};
+ghost use Prim.Native.Nat.{_*_, _≤_};
+ghost use lib.ListN.{length, drop};
+ghost use Rattle.park_format.specs.Park.{headerOf, parkOf};
+ghost use Rattle.park_format.specs.Rules.{IsAccepted};
+ghost use Rattle.park_bill.specs.Bill.{bill};
+ghost use Rattle.park_bill.specs.Walk.{IsSite};
+ghost use Rattle.park_bill.specs.Reply.{billsOf, listAfter, parkAnswer, parkOutcome, siteAnswer, siteOutcome};
+
+pub enum SiteReply {
+    Billed(Bill),
+    Refused(Refusal),
+}
+
+pub enum ParkReply {
+    // The number of sites.
+    Billed(u64),
+    Refused(Refusal),
+}
+
+// The bill of site k of an accepted file, from what the walk left for it.
+fn bill_at(
+    file: &[u8],
+    header: Header,
+    k: usize,
+    input: Inputs,
+    transit: Transits,
+    flow: Flow,
+) -> Bill
+    requires accepted { ⌜ (IsAccepted (now file)) × (header ≡ headerOf (now file)) ⌝ }
+    requires walked { ⌜ IsSite k input transit flow (parkOf (now file)) ⌝ }
+    ensures { λ r. ⌜ r ≡ bill (parkOf (now (file .entry))) k ⌝ }
+{
+    let record = Site::read(file, Header::LEN + Site::LEN * (k - 1));
+    site::bill_of(
+        header.price as u64,
+        header.hours as u64,
+        record,
+        input,
+        transit,
+        flow,
+    )
+}
+
+// Bills one site, counted from 1. It takes any number for a site, and bytes of any number.
+pub fn bill_site(file: &[u8], site: u64) -> SiteReply
+    ensures { λ r. ⌜ siteAnswer r ≡ siteOutcome (now (file .entry)) site ⌝ }
+{
+    if let Verdict::Refused(r) = park_format::check(file) {
+        return SiteReply::Refused(r);
+    }
+    let header = Header::read(file);
+    if site == 0 {
+        return SiteReply::Refused(Refusal {
+            number: 20,
+            place: 0,
+        });
+    }
+    if (header.sites as u64) < site {
+        return SiteReply::Refused(Refusal {
+            number: 20,
+            place: 0,
+        });
+    }
+    let k = site as usize;
+    let sums = walk::add_up(file, header);
+    let flows = walk::drain(file, header, walk::start(sums, header.sites));
+    let input = sums.ins[k];
+    let transit = sums.outs[k];
+    let flow = flows[k];
+    SiteReply::Billed(bill_at(file, header, k, input, transit, flow))
+}
+
+// Writes the bill of each site of an accepted file into its own part of a list that has room for them.
+fn fill(file: &[u8], header: Header, list: &mut [u64])
+    requires accepted { ⌜ (IsAccepted (now file)) × (header ≡ headerOf (now file)) ⌝ }
+    requires room { ⌜ 11 * header .sites ≤ length (now list) ⌝ }
+    ensures { λ _. ⌜ now (list .exit) ≡ billsOf (parkOf (now (file .entry))) (header .sites) ++ drop (11 * header .sites) (now (list .entry)) ⌝ }
+{
+    let sums = walk::add_up(file, header);
+    let flows = walk::drain(file, header, walk::start(sums, header.sites));
+    let sites = header.sites as usize;
+    let mut k = 0;
+    while k < sites {
+        let at = 11 * k;
+        let next = k + 1;
+        let input = sums.ins[next];
+        let transit = sums.outs[next];
+        let flow = flows[next];
+        bill_at(file, header, next, input, transit, flow).write(&mut list[at..at + 11]);
+        k += 1;
+    }
+}
+
+// Bills every site into a list, eleven numbers a site; a refusal leaves the list as it was.
+pub fn bill_park(file: &[u8], list: &mut [u64]) -> ParkReply
+    ensures reply { λ r. ⌜ parkAnswer r ≡ parkOutcome (now (file .entry)) (now (list .entry)) ⌝ }
+    ensures written { λ r. ⌜ now (list .exit) ≡ listAfter (now (file .entry)) (now (list .entry)) ⌝ }
+{
+    if let Verdict::Refused(r) = park_format::check(file) {
+        return ParkReply::Refused(r);
+    }
+    let header = Header::read(file);
+    if list.len() < 11 * (header.sites as usize) {
+        return ParkReply::Refused(Refusal {
+            number: 21,
+            place: 0,
+        });
+    }
+    fill(file, header, list);
+    ParkReply::Billed(header.sites as u64)
+}

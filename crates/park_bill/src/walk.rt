@@ -1,0 +1,80 @@
+// The walk over the lines: once for the sums of every site, and once more for what needs the tangents.
+// Each array has a place for the network, 0, and one for each of 16 sites.
+use crate::totals::Flow;
+use crate::totals::Inputs;
+use crate::totals::Transits;
+use park_format::header::Header;
+use park_format::line::Line;
+use park_format::site::Site;
+ghost use mathlib.Core.Path.{_≡_};
+ghost use Rattle.park_format.specs.Park.{headerOf, parkOf};
+ghost use Rattle.park_format.specs.Rules.{IsAccepted};
+ghost use Rattle.park_bill.specs.Walk.{Drained, Fresh, RoomForTangents, Started, Summed};
+
+pub struct Sums {
+    pub ins: [Inputs; 17],
+    pub outs: [Transits; 17],
+}
+
+// The sums of every site of an accepted file. Each line is added at both its ends.
+pub fn add_up(file: &[u8], header: Header) -> Sums
+    requires { ⌜ (IsAccepted (now file)) × (header ≡ headerOf (now file)) ⌝ }
+    ensures { λ r. ⌜ Summed r (parkOf (now (file .entry)) .lines) ⌝ }
+{
+    let at = Header::LEN + Site::LEN * (header.sites as usize);
+    let lines = header.lines as usize;
+    let no_input = Inputs::none();
+    let no_transit = Transits::none();
+    let mut ins = [no_input; 17];
+    let mut outs = [no_transit; 17];
+    let mut i = 0;
+    while i < lines {
+        let line = Line::read(file, at + Line::LEN * i);
+        let to = line.to as usize;
+        let input = ins[to];
+        ins[to] = input.with(line);
+        let from = line.from as usize;
+        let transit = outs[from];
+        outs[from] = transit.with(line);
+        i += 1;
+    }
+    Sums { ins, outs }
+}
+
+// The flows of the sites before any transit: their tangents, and the losses of their inputs.
+pub fn start(sums: Sums, sites: u8) -> [Flow; 17]
+    requires { ⌜ RoomForTangents sums sites ⌝ }
+    ensures { λ r. ⌜ Started r sums sites ⌝ }
+{
+    let last = sites as usize;
+    let no_flow = Flow::none();
+    let mut flows = [no_flow; 17];
+    let mut k = 0;
+    while k <= last {
+        let input = sums.ins[k];
+        let transit = sums.outs[k];
+        flows[k] = Flow::start(input, transit);
+        k += 1;
+    }
+    flows
+}
+
+// The flows of the sites of an accepted file after all transits, each at the tangent of the site that it leaves.
+pub fn drain(file: &[u8], header: Header, before: [Flow; 17]) -> [Flow; 17]
+    requires accepted { ⌜ (IsAccepted (now file)) × (header ≡ headerOf (now file)) ⌝ }
+    requires fresh { ⌜ Fresh before (header .sites) ⌝ }
+    ensures { λ r. ⌜ Drained r before (header .sites) (parkOf (now (file .entry)) .lines) ⌝ }
+{
+    let at = Header::LEN + Site::LEN * (header.sites as usize);
+    let lines = header.lines as usize;
+    let mut flows = before;
+    let mut i = 0;
+    while i < lines {
+        let line = Line::read(file, at + Line::LEN * i);
+        let from = line.from as usize;
+        let flow = flows[from];
+        flows[from] = flow.with(line);
+        i += 1;
+    }
+    flows
+}
