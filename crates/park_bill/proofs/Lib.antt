@@ -8,4 +8,7 @@ pub mod Small
 pub mod Bills
 pub mod Sites
 pub mod Refusals
-pub mod Stretches
+pub mod Slices
+pub mod Balances
+pub mod Outcomes
+pub mod CaseTest

@@ -1,13 +1,13 @@
 -- Laws of the walk: a store into an array of sums is one line more, and the sums of an accepted park have room for it.
 -- Assumes nothing.
-use Prim.Native.Nat.{ℕ, zero, suc, _+_, _*_, _-_, _≤_, _<_}
+use Prim.Native.Nat.{ℕ, zero, _+_, _*_, _-_, _≤_, _<_}
 use native.Mathlib.Nat.{add-zero, add-assoc, mul-le-mul, le-trans}
 use native.Mathlib.Omega.{arith}
 use mathlib.Core.Path.{_≡_, refl, sym, ap, subst, _∙_}
 use mathlib.Core.Bool.{Bool, true, false, cond}
 use mathlib.Core.List.{List, [], _∷_, _++_, append-nil}
 use lib.Dec.{eqb}
-use lib.IntN.{ℤ, pos, _-ℤ_, _+ℤ_, negℤ, natAbs, pos-+ℤ-pos, negℤ-+ℤ, +ℤ-assoc, +ℤ-idr}
+use lib.IntN.{ℤ, pos, _-ℤ_, _+ℤ_, negℤ, natAbs, negℤ-+ℤ, +ℤ-assoc, +ℤ-idr}
 use lib.ListN.{length, getD, set, length-append}
 use lib.Seq.{getD-set-same, getD-set-other}
 use borrow.Author.Tests.{eqb-true, eqb-false}
@@ -135,12 +135,12 @@ module _ (s : ℕ) (lines : List Line) (kept : Every (KeptLine s) lines) (few : 
         losses = small lossIn 50000000000 (λ x y. mul-le-mul (inflow-le (measuresReactive (x .meters)) (y .active) (y .reactive)) (y .eerp .1)) to;
         eerp = small (λ (x : Line). x .eerp) 5000 (λ x y. y .eerp .1) to;
         count = omega (arith, length-select to lines);
-        ungenerated = small (λ (x : Line). lacking (generates x)) 1 (λ x y. lacking-bool (generates x)) to;
-        unvalleyed = small (λ (x : Line). lacking (measuresNight (x .meters))) 1 (λ x y. lacking-bool (measuresNight (x .meters))) to;
+        withoutGeneration = small (λ (x : Line). lacking (generates x)) 1 (λ x y. lacking-bool (generates x)) to;
+        withoutNight = small (λ (x : Line). lacking (measuresNight (x .meters))) 1 (λ x y. lacking-bool (measuresNight (x .meters))) to;
         generated = small (λ (x : Line). x .generated) 10000000 (λ x y. y .generated) to;
         night = small (λ (x : Line). x .night) 10000000 (λ x y. y .night) to;
-        weighed = small (λ (x : Line). x .generated * x .eerp) 50000000000 (λ x y. mul-le-mul (y .generated) (y .eerp .1)) to;
-        valley = small (λ (x : Line). x .night * x .eerp) 50000000000 (λ x y. mul-le-mul (y .night) (y .eerp .1)) to;
+        generatedLosses = small (λ (x : Line). x .generated * x .eerp) 50000000000 (λ x y. mul-le-mul (y .generated) (y .eerp .1)) to;
+        nightLosses = small (λ (x : Line). x .night * x .eerp) 50000000000 (λ x y. mul-le-mul (y .night) (y .eerp .1)) to;
       }
 
   pub transit-room : (l : Line) → SmallLine l → RoomForTransit (transitSums (transits k lines)) l
@@ -151,11 +151,11 @@ module _ (s : ℕ) (lines : List Line) (kept : Every (KeptLine s) lines) (few : 
         small = h;
         active = small (λ (x : Line). when (measuresReactive (x .meters)) (x .active)) 10000000 (λ x y. le-trans (when-bool (measuresReactive (x .meters)) (x .active)) (y .active)) from;
         reactive = small (λ (x : Line). when (measuresReactive (x .meters)) (x .reactive)) 10000000 (λ x y. le-trans (when-bool (measuresReactive (x .meters)) (x .reactive)) (y .reactive)) from;
-        unvalleyed = small (λ (x : Line). lacking (measuresNight (x .meters))) 1 (λ x y. lacking-bool (measuresNight (x .meters))) from;
+        withoutNight = small (λ (x : Line). lacking (measuresNight (x .meters))) 1 (λ x y. lacking-bool (measuresNight (x .meters))) from;
         generated = small (λ (x : Line). when (generates x) (x .generated)) 10000000 (λ x y. le-trans (when-bool (generates x) (x .generated)) (y .generated)) from;
         night = small (λ (x : Line). when (generates x) (x .night)) 10000000 (λ x y. le-trans (when-bool (generates x) (x .night)) (y .night)) from;
-        weighed = small (λ (x : Line). when (generates x) (x .generated) * x .eerp) 50000000000 (λ x y. mul-le-mul (le-trans (when-bool (generates x) (x .generated)) (y .generated)) (y .eerp .1)) from;
-        valley = small (λ (x : Line). when (generates x) (x .night) * x .eerp) 50000000000 (λ x y. mul-le-mul (le-trans (when-bool (generates x) (x .night)) (y .night)) (y .eerp .1)) from;
+        generatedLosses = small (λ (x : Line). when (generates x) (x .generated) * x .eerp) 50000000000 (λ x y. mul-le-mul (le-trans (when-bool (generates x) (x .generated)) (y .generated)) (y .eerp .1)) from;
+        nightLosses = small (λ (x : Line). when (generates x) (x .night) * x .eerp) 50000000000 (λ x y. mul-le-mul (le-trans (when-bool (generates x) (x .night)) (y .night)) (y .eerp .1)) from;
       }
 
   -- a flow that starts with the losses of inputs alone

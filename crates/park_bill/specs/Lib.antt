@@ -4,3 +4,5 @@ pub mod Totals
 pub mod Walk
 pub mod Site
 pub mod Reply
+pub mod Balance
+pub mod Cases

@@ -1,4 +1,4 @@
--- What the walk over the lines adds up for a site: the sums over its inputs and over its transits, and one line more.
+-- Inner: what the walk over the lines adds up for a site: the sums over its inputs and over its transits, and one line more.
 -- Assumes nothing.
 use Prim.Native.Nat.{ℕ, _+_, _*_, _≤_}
 use mathlib.Core.Bool.{Bool, cond}
@@ -159,22 +159,22 @@ pub record RoomForInput (t : Inputs) (l : Line) : Type 0 where
   pub losses : natAbs (t .losses) ≤ 3200000000000
   pub eerp : t .eerp ≤ 320000
   pub count : t .count ≤ 64
-  pub ungenerated : t .«without_generation» ≤ 64
-  pub unvalleyed : t .«without_night» ≤ 64
+  pub withoutGeneration : t .«without_generation» ≤ 64
+  pub withoutNight : t .«without_night» ≤ 64
   pub generated : t .generated ≤ 640000000
   pub night : t .night ≤ 640000000
-  pub weighed : t .«generated_losses» ≤ 3200000000000
-  pub valley : t .«night_losses» ≤ 3200000000000
+  pub generatedLosses : t .«generated_losses» ≤ 3200000000000
+  pub nightLosses : t .«night_losses» ≤ 3200000000000
 
 pub record RoomForTransit (t : Transits) (l : Line) : Type 0 where
   pub small : SmallLine l
   pub active : t .active ≤ 640000000
   pub reactive : t .reactive ≤ 640000000
-  pub unvalleyed : t .«without_night» ≤ 64
+  pub withoutNight : t .«without_night» ≤ 64
   pub generated : t .generated ≤ 640000000
   pub night : t .night ≤ 640000000
-  pub weighed : t .«generated_losses» ≤ 3200000000000
-  pub valley : t .«night_losses» ≤ 3200000000000
+  pub generatedLosses : t .«generated_losses» ≤ 3200000000000
+  pub nightLosses : t .«night_losses» ≤ 3200000000000
 
 pub record RoomForTangent (i : Inputs) (o : Transits) : Type 0 where
   pub active : i .active ≤ 640000000

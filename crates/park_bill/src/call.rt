@@ -1,6 +1,6 @@
 // The two billing calls.
+use crate::bill::Bill;
 use crate::site;
-use crate::site::Bill;
 use crate::totals::Flow;
 use crate::totals::Inputs;
 use crate::totals::Transits;
@@ -17,6 +17,7 @@ ghost use Rattle.park_format.specs.Park.{headerOf, parkOf};
 ghost use Rattle.park_format.specs.Rules.{IsAccepted};
 ghost use Rattle.park_bill.specs.Bill.{bill};
 ghost use Rattle.park_bill.specs.Walk.{IsSite};
+ghost use Rattle.park_bill.specs.Balance.{InBalance};
 ghost use Rattle.park_bill.specs.Reply.{billsOf, listAfter, parkAnswer, parkOutcome, siteAnswer, siteOutcome};
 
 pub enum SiteReply {
@@ -76,7 +77,7 @@ pub fn bill_site(file: &[u8], site: u64) -> SiteReply
     }
     let k = site as usize;
     let sums = walk::add_up(file, header);
-    let flows = walk::drain(file, header, walk::start(sums, header.sites));
+    let flows = walk::after_transits(file, header, walk::before_transits(sums, header.sites));
     let input = sums.ins[k];
     let transit = sums.outs[k];
     let flow = flows[k];
@@ -90,7 +91,7 @@ fn fill(file: &[u8], header: Header, list: &mut [u64])
     ensures { λ _. ⌜ now (list .exit) ≡ billsOf (parkOf (now (file .entry))) (header .sites) ++ drop (11 * header .sites) (now (list .entry)) ⌝ }
 {
     let sums = walk::add_up(file, header);
-    let flows = walk::drain(file, header, walk::start(sums, header.sites));
+    let flows = walk::after_transits(file, header, walk::before_transits(sums, header.sites));
     let sites = header.sites as usize;
     let mut k = 0;
     while k < sites {
@@ -108,6 +109,7 @@ fn fill(file: &[u8], header: Header, list: &mut [u64])
 pub fn bill_park(file: &[u8], list: &mut [u64]) -> ParkReply
     ensures reply { λ r. ⌜ parkAnswer r ≡ parkOutcome (now (file .entry)) (now (list .entry)) ⌝ }
     ensures written { λ r. ⌜ now (list .exit) ≡ listAfter (now (file .entry)) (now (list .entry)) ⌝ }
+    ensures balance { λ r. ⌜ InBalance (now (file .entry)) (now (list .entry)) (now (list .exit)) ⌝ }
 {
     if let Verdict::Refused(r) = park_format::check(file) {
         return ParkReply::Refused(r);

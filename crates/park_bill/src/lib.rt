@@ -1,8 +1,9 @@
 // The bill of every site of a park file.
+pub mod bill;
 pub mod call;
-pub mod site;
-pub mod totals;
-pub mod walk;
+mod site;
+mod totals;
+mod walk;
 mod weighted;
 
 pub use call::bill_park;

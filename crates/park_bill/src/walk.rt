@@ -9,7 +9,7 @@ use park_format::site::Site;
 ghost use mathlib.Core.Path.{_≡_};
 ghost use Rattle.park_format.specs.Park.{headerOf, parkOf};
 ghost use Rattle.park_format.specs.Rules.{IsAccepted};
-ghost use Rattle.park_bill.specs.Walk.{Drained, Fresh, RoomForTangents, Started, Summed};
+ghost use Rattle.park_bill.specs.Walk.{FlowsAfter, WithoutTransits, RoomForTangents, FlowsBefore, Summed};
 
 pub struct Sums {
     pub ins: [Inputs; 17],
@@ -42,9 +42,9 @@ pub fn add_up(file: &[u8], header: Header) -> Sums
 }
 
 // The flows of the sites before any transit: their tangents, and the losses of their inputs.
-pub fn start(sums: Sums, sites: u8) -> [Flow; 17]
+pub fn before_transits(sums: Sums, sites: u8) -> [Flow; 17]
     requires { ⌜ RoomForTangents sums sites ⌝ }
-    ensures { λ r. ⌜ Started r sums sites ⌝ }
+    ensures { λ r. ⌜ FlowsBefore r sums sites ⌝ }
 {
     let last = sites as usize;
     let no_flow = Flow::none();
@@ -60,10 +60,10 @@ pub fn start(sums: Sums, sites: u8) -> [Flow; 17]
 }
 
 // The flows of the sites of an accepted file after all transits, each at the tangent of the site that it leaves.
-pub fn drain(file: &[u8], header: Header, before: [Flow; 17]) -> [Flow; 17]
+pub fn after_transits(file: &[u8], header: Header, before: [Flow; 17]) -> [Flow; 17]
     requires accepted { ⌜ (IsAccepted (now file)) × (header ≡ headerOf (now file)) ⌝ }
-    requires fresh { ⌜ Fresh before (header .sites) ⌝ }
-    ensures { λ r. ⌜ Drained r before (header .sites) (parkOf (now (file .entry)) .lines) ⌝ }
+    requires fresh { ⌜ WithoutTransits before (header .sites) ⌝ }
+    ensures { λ r. ⌜ FlowsAfter r before (header .sites) (parkOf (now (file .entry)) .lines) ⌝ }
 {
     let at = Header::LEN + Site::LEN * (header.sites as usize);
     let lines = header.lines as usize;

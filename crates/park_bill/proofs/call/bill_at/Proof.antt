@@ -1,7 +1,7 @@
 use mathlib.Core.Path.{_∙_}
 use native.Mathlib.Omega.{arith}
 use denote.Ref.{now}
-use Rattle.park_format.specs.Park.{headerOf, parkOf}
+use Rattle.park_format.specs.Park.{parkOf}
 use Rattle.park_bill.proofs.Parks.{header-kept}
 use Rattle.park_bill.proofs.Sites.{room-of, bill-is}
 use borrow.Author.Needs.{needs}

@@ -7,10 +7,12 @@ use native.Mathlib.Omega.{arith}
 use borrow.Author.Tests.{lt-ltb, le-ltb}
 use denote.Ref.{now}
 use lib.ListN.{length, drop}
-use Rattle.park_format.specs.Park.{headerOf, parkOf}
+use Rattle.park_format.specs.Park.{parkOf}
 use Rattle.park_format.specs.Rules.{IsAccepted, refusalOf}
 use Rattle.park_format.specs.declared.header.Header.{Header}
-use Rattle.park_bill.specs.Reply.{answer, billsOf, unlessRefused}
+use Rattle.park_bill.specs.Reply.{answer, billsOf, listAfter, unlessRefused}
+use Rattle.park_bill.specs.Balance.{InBalance}
+use Rattle.park_bill.proofs.Outcomes.{park-balance}
 use Rattle.park_bill.proofs.Parks.{header-kept}
 use Rattle.park_bill.proofs.Refusals.{file-first, call-refuses, call-allows}
 use borrow.Author.Needs.{needs}
@@ -23,6 +25,10 @@ outcome file refused = answer refused (parkOf file .header .sites)
 
 abbrev left : List ℕ → List ℕ → Option (ℕ × ℕ) → List ℕ
 left file before refused = unlessRefused refused (billsOf (parkOf file) (parkOf file .header .sites) ++ drop (11 * parkOf file .header .sites) before) before
+
+-- a list that is as the call leaves it is in balance
+in-balance : (file before : List ℕ) {after : List ℕ} → after ≡ listAfter file before → InBalance file before after
+in-balance file before e = subst (InBalance file before) (sym e) (park-balance file before)
 
 -- once the header is read: the file is accepted
 module _ (c : tie.After-read) where
@@ -46,7 +52,8 @@ returns : tie.Need-returns
 returns c =
     let s = c .before .before .before .before .before .before .args in
     let e = file-first (now (s .file)) _ (sym (ap refusalOf (c .before .r .given .1)) ∙ c .before .before .before .check .ensures) in
-    (sym (ap (outcome (now (s .file))) e), sym (ap (left (now (s .file)) (now (s .list))) e))
+    let list = sym (ap (left (now (s .file)) (now (s .list))) e) in
+    (sym (ap (outcome (now (s .file))) e), (list, in-balance (now (s .file)) (now (s .list)) list))
 
 enum-told : tie.Need-enum-told
 enum-told c = search needs
@@ -67,7 +74,8 @@ returns-2 c =
     let s = c .before .before .before .before .before .before .before .before .args in
     let short = subst (λ (n : ℕ). length (now (s .list)) < 11 * n) (sites-are (c .before .before)) (c .if1 .taken) in
     let e = call-refuses (now (s .file)) 21 0 _ (accepted (c .before .before)) (lt-ltb _ _ short) in
-    (sym (ap (outcome (now (s .file))) e), sym (ap (left (now (s .file)) (now (s .list))) e))
+    let list = sym (ap (left (now (s .file)) (now (s .list))) e) in
+    (sym (ap (outcome (now (s .file))) e), (list, in-balance (now (s .file)) (now (s .list)) list))
 
 fill-requires : tie.Need-fill-requires
 fill-requires c κs = ((accepted (c .before .before .before), c .before .before .before .read .ensures), c .before .if1 .left)
@@ -83,12 +91,12 @@ returns-3 c =
     let s = c .before .before .before .before .before .before .before .before .before .before .before .before .before .args in
     let same = sites-are (c .before .before .before .before .before .before .before) in
     let long = subst (λ (n : ℕ). 11 * n ≤ length (now (s .list))) same (c .before .before .before .before .before .if1 .left) in
-    let e = call-allows (now (s .file)) 21 0 _ (accepted (c .before .before .before .before .before .before .before)) (le-ltb _ _ long) in (
-      ap inr same ∙ sym (ap (outcome (now (s .file))) e),
-      c .before .before .before .fill .ensures
-          ∙ ap (λ (n : ℕ). billsOf (parkOf (now (s .file))) n ++ drop (11 * n) (now (s .list))) same
-          ∙ sym (ap (left (now (s .file)) (now (s .list))) e),
-    )
+    let e = call-allows (now (s .file)) 21 0 _ (accepted (c .before .before .before .before .before .before .before)) (le-ltb _ _ long) in
+    let list =
+    c .before .before .before .fill .ensures
+    ∙ ap (λ (n : ℕ). billsOf (parkOf (now (s .file))) n ++ drop (11 * n) (now (s .list))) same
+    ∙ sym (ap (left (now (s .file)) (now (s .list))) e) in
+    (ap inr same ∙ sym (ap (outcome (now (s .file))) e), (list, in-balance (now (s .file)) (now (s .list)) list))
 
 pub bill-park-spec : {M : Type 1} → statement M
 bill-park-spec =

@@ -1,5 +1,5 @@
 use Prim.Native.Nat.{ℕ, _≤_, _<_}
-use mathlib.Core.Logic.{_⊎_, inl, inr}
+use mathlib.Core.Logic.{_⊎_, inr}
 use mathlib.Core.Path.{_≡_, sym, ap, subst, _∙_}
 use mathlib.Core.Bool.{true, false}
 use mathlib.Core.List.{List}
@@ -7,14 +7,13 @@ use mathlib.Core.Option.{Option}
 use native.Mathlib.Omega.{arith}
 use borrow.Author.Tests.{eq-eqb, ne-eqb, lt-ltb, le-ltb}
 use denote.Ref.{now}
-use Rattle.park_format.specs.Park.{headerOf, parkOf}
+use Rattle.park_format.specs.Park.{parkOf}
 use Rattle.park_format.specs.Rules.{IsAccepted, refusalOf, zeroOrAbove}
 use Rattle.park_format.specs.declared.header.Header.{Header}
 use Rattle.park_format.proofs.Tests.{or-yes, or-next, or-no}
 use Rattle.park_bill.specs.Bill.{bill}
 use Rattle.park_bill.specs.Reply.{answer}
-use Rattle.park_bill.specs.Walk.{IsSite}
-use Rattle.park_bill.specs.declared.site.Bill.{Bill}
+use Rattle.park_bill.specs.declared.bill.Bill.{Bill}
 use Rattle.park_bill.proofs.Parks.{header-kept}
 use Rattle.park_bill.proofs.Refusals.{file-first, call-refuses, call-allows}
 use Rattle.park_bill.proofs.Sites.{tangents-room, fresh, walked-site}
@@ -86,13 +85,13 @@ returns-3 c =
 add-up-requires : tie.Need-add-up-requires
 add-up-requires c κs = (accepted (c .before .before .before), c .before .before .before .read .ensures)
 
-start-requires : tie.Need-start-requires
-start-requires c κs = tangents-room (now (c .before .before .before .before .before .before .before .before .before .args .file)) (accepted (c .before .before .before .before)) (c .before .before .before .before .read .result) (c .before .before .before .before .read .ensures) (c .add-up .result) (c .add-up .ensures)
+before-transits-requires : tie.Need-before-transits-requires
+before-transits-requires c κs = tangents-room (now (c .before .before .before .before .before .before .before .before .before .args .file)) (accepted (c .before .before .before .before)) (c .before .before .before .before .read .result) (c .before .before .before .before .read .ensures) (c .add-up .result) (c .add-up .ensures)
 
-drain-requires : tie.Need-drain-requires
-drain-requires c κs = (
+after-transits-requires : tie.Need-after-transits-requires
+after-transits-requires c κs = (
   (accepted (c .before .before .before .before .before), c .before .before .before .before .before .read .ensures),
-  fresh (now (c .before .before .before .before .before .before .before .before .before .before .args .file)) (accepted (c .before .before .before .before .before)) (c .before .before .before .before .before .read .result) (c .before .before .before .before .before .read .ensures) (c .before .add-up .result) (c .before .add-up .ensures) (c .start .result) (c .start .ensures),
+  fresh (now (c .before .before .before .before .before .before .before .before .before .before .args .file)) (accepted (c .before .before .before .before .before)) (c .before .before .before .before .before .read .result) (c .before .before .before .before .before .read .ensures) (c .before .add-up .result) (c .before .add-up .ensures) (c .before-transits .result) (c .before-transits .ensures),
 )
 
 mul-input : tie.Need-mul-input
@@ -116,7 +115,7 @@ array-copy-out-flow c = omega (arith, few (c .before .before .before .before .be
 bill-at-requires : tie.Need-bill-at-requires
 bill-at-requires c κs = (
   (accepted (c .before .before .before .before .before .before .before .before .before), c .before .before .before .before .before .before .before .before .before .read .ensures),
-  walked-site (now (c .before .before .before .before .before .before .before .before .before .before .before .before .before .before .args .file)) (accepted (c .before .before .before .before .before .before .before .before .before)) (c .before .before .before .before .before .before .before .before .before .read .result) (c .before .before .before .before .before .before .before .before .before .read .ensures) (c .before .before .before .before .before .add-up .result) (c .before .before .before .before .before .add-up .ensures) (c .before .before .before .before .start .result) (c .before .before .before .before .start .ensures) (c .before .before .before .drain .result) (c .before .before .before .drain .ensures)
+  walked-site (now (c .before .before .before .before .before .before .before .before .before .before .before .before .before .before .args .file)) (accepted (c .before .before .before .before .before .before .before .before .before)) (c .before .before .before .before .before .before .before .before .before .read .result) (c .before .before .before .before .before .before .before .before .before .read .ensures) (c .before .before .before .before .before .add-up .result) (c .before .before .before .before .before .add-up .ensures) (c .before .before .before .before .before-transits .result) (c .before .before .before .before .before-transits .ensures) (c .before .before .before .after-transits .result) (c .before .before .before .after-transits .ensures)
       (c .before .before .before .before .before .before .before .before .before .before .before .before .before .before .args .site) (omega (arith, c .before .before .before .before .before .before .before .before .if1 .left)) (c .before .before .before .before .before .before .if2 .left),
 )
 
@@ -139,8 +138,8 @@ bill-site-spec =
     cast-if2
     returns-3
     add-up-requires
-    start-requires
-    drain-requires
+    before-transits-requires
+    after-transits-requires
     mul-input
     element-copy-out-input
     mul-transit

@@ -1,4 +1,4 @@
-use Prim.Native.Nat.{ℕ, _+_, _*_, _-_, _≤_, _<_}
+use Prim.Native.Nat.{ℕ, _+_, _*_, _-_, _≤_}
 use native.Mathlib.Nat.{le-antisymm}
 use native.Mathlib.Omega.{arith}
 use mathlib.Core.Path.{_≡_, refl, sym, ap, subst, _∙_}
@@ -13,7 +13,7 @@ use Rattle.park_bill.specs.Bill.{words}
 use Rattle.park_bill.specs.Reply.{billsOf}
 use Rattle.park_bill.proofs.Parks.{header-kept}
 use Rattle.park_bill.proofs.Sites.{tangents-room, fresh, walked-site}
-use Rattle.park_bill.proofs.Stretches.{length-part, length-written, next-stretch, no-stretch}
+use Rattle.park_bill.proofs.Slices.{length-part, length-written, next-slice, no-slice}
 use Rattle.park_bill.proofs.call.fill.Statement.{statement}
 use Rattle.park_bill.proofs.call.fill.Tie as tie
 
@@ -39,17 +39,17 @@ few s = sixteen (now (s .args .file)) (s .args .header) (s .pre .0 .0) (s .pre .
 add-up-requires : tie.Need-add-up-requires Inv-loop μ-loop
 add-up-requires c κs = c .before .before .pre .0
 
-start-requires : tie.Need-start-requires Inv-loop μ-loop
-start-requires c κs = let s = c .before .before .before in tangents-room (now (s .args .file)) (s .pre .0 .0) (s .args .header) (s .pre .0 .1) (c .add-up .result) (c .add-up .ensures)
+before-transits-requires : tie.Need-before-transits-requires Inv-loop μ-loop
+before-transits-requires c κs = let s = c .before .before .before in tangents-room (now (s .args .file)) (s .pre .0 .0) (s .args .header) (s .pre .0 .1) (c .add-up .result) (c .add-up .ensures)
 
-drain-requires : tie.Need-drain-requires Inv-loop μ-loop
-drain-requires c κs = let s = c .before .before .before .before in (s .pre .0, fresh (now (s .args .file)) (s .pre .0 .0) (s .args .header) (s .pre .0 .1) (c .before .add-up .result) (c .before .add-up .ensures) (c .start .result) (c .start .ensures))
+after-transits-requires : tie.Need-after-transits-requires Inv-loop μ-loop
+after-transits-requires c κs = let s = c .before .before .before .before in (s .pre .0, fresh (now (s .args .file)) (s .pre .0 .0) (s .args .header) (s .pre .0 .1) (c .before .add-up .result) (c .before .add-up .ensures) (c .before-transits .result) (c .before-transits .ensures))
 
 cast-sites : tie.Need-cast-sites Inv-loop μ-loop
 cast-sites c = search needs
 
 loop-holds : tie.Need-loop-holds Inv-loop μ-loop
-loop-holds c = (search needs, (refl, (refl, no-stretch _ _)))
+loop-holds c = (search needs, (refl, (refl, no-slice _ _)))
 
 mul-at : tie.Need-mul-at Inv-loop μ-loop
 mul-at c = omega (arith, c .loop-test .taken, c .before .loop .inv, few (c .before .before .before .before .before .before .before .before))
@@ -79,7 +79,7 @@ bill-at-requires : tie.Need-bill-at-requires Inv-loop μ-loop
 bill-at-requires c κs =
     let s = c .before .before .before .before .before .before .before .before .before .before .before in (
       s .pre .0,
-      walked-site (now (s .args .file)) (s .pre .0 .0) (s .args .header) (s .pre .0 .1) (c .before .before .before .before .before .before .before .before .add-up .result) (c .before .before .before .before .before .before .before .before .add-up .ensures) (c .before .before .before .before .before .before .before .start .result) (c .before .before .before .before .before .before .before .start .ensures) (c .before .before .before .before .before .before .drain .result) (c .before .before .before .before .before .before .drain .ensures)
+      walked-site (now (s .args .file)) (s .pre .0 .0) (s .args .header) (s .pre .0 .1) (c .before .before .before .before .before .before .before .before .add-up .result) (c .before .before .before .before .before .before .before .before .add-up .ensures) (c .before .before .before .before .before .before .before .before-transits .result) (c .before .before .before .before .before .before .before .before-transits .ensures) (c .before .before .before .before .before .before .after-transits .result) (c .before .before .before .before .before .before .after-transits .ensures)
           (c .before .before .before .before .loop .k + 1) (omega arith) (omega (arith, c .before .before .before .loop-test .taken, c .before .before .before .before .loop .inv)),
     )
 
@@ -120,7 +120,7 @@ loop-again c =
         l .inv .1 .0,
         (
           length-written (11 * l .k) _ (l .list) (omega (arith, c .before .before .before .before .before .before .before .before .loop-test .taken, l .inv, s .pre .1)) part (ap length new ∙ sym (wide (l .k))) ∙ l .inv .1 .1 .0,
-          next-stretch (parkOf (now (s .args .file))) (l .k) _ (l .list) (now (s .args .list)) part (wide (l .k)) (l .inv .1 .1 .1) new,
+          next-slice (parkOf (now (s .args .file))) (l .k) _ (l .list) (now (s .args .list)) part (wide (l .k)) (l .inv .1 .1 .1) new,
         ),
       ),
     )
@@ -142,8 +142,8 @@ fill-spec =
     Inv-loop
     μ-loop
     add-up-requires
-    start-requires
-    drain-requires
+    before-transits-requires
+    after-transits-requires
     cast-sites
     loop-holds
     mul-at

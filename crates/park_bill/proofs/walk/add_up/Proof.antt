@@ -1,11 +1,10 @@
 use Prim.Native.Nat.{ℕ, _+_, _*_, _-_, _≤_, _<_}
 use native.Mathlib.Nat.{le-antisymm}
-use native.Mathlib.Numerals.{add-one}
 use native.Mathlib.Omega.{arith}
 use mathlib.Core.Path.{_≡_, refl, sym, ap, subst, _∙_}
 use borrow.Author.Needs.{needs}
 use denote.Ref.{now}
-use mathlib.Core.List.{List, [], _∷_, _++_}
+use mathlib.Core.List.{List}
 use lib.ListN.{length, getD, set, length-set, getD-replicate}
 use Rattle.park_bill.specs.Sums.{sumBy}
 use Rattle.park_bill.specs.Totals.{inputSums, transitSums, noInputs, noTransits, addInput, addTransit, RoomForInput, RoomForTransit}

@@ -1,5 +1,4 @@
 -- `park_bill::weighted::gained` meets its contract: sum and losses are read whole, and their sum fits. Assumes nothing.
-use Prim.Native.Nat.{_≤_}
 use mathlib.Core.Path.{_≡_, sym, ap₂, subst, _∙_}
 use borrow.Author.Needs.{needs}
 use native.Mathlib.Omega.{arith}

@@ -1,5 +1,5 @@
-use Prim.Native.Nat.{ℕ, _+_, _*_}
-use mathlib.Core.Path.{_≡_, ap, _∙_}
+use Prim.Native.Nat.{_+_, _*_}
+use mathlib.Core.Path.{ap, _∙_}
 use mathlib.Core.Bool.{Bool}
 use native.Mathlib.Omega.{arith}
 use native.Mathlib.Nat.{mul-le-mul}
@@ -56,7 +56,7 @@ lacking-requires : tie.Need-lacking-requires
 lacking-requires c κs = search needs
 
 add-t16 : tie.Need-add-t16
-add-t16 c = omega (arith, c .before .before .before .before .before .before .before .before .before .before .before .before .before .before .before .before .pre .unvalleyed, lacking-le (c .before .before .measures-night .result) (c .before .lacking .ensures))
+add-t16 c = omega (arith, c .before .before .before .before .before .before .before .before .before .before .before .before .before .before .before .before .pre .withoutNight, lacking-le (c .before .before .measures-night .result) (c .before .lacking .ensures))
 
 add-t17 : tie.Need-add-t17
 add-t17 c = omega (arith, c .before .before .before .before .before .before .before .before .before .before .before .before .before .before .before .before .before .pre .generated, when-le (c .before .before .before .before .before .before .before .before .before .before .before .before .before .before .measures-generated .result) (c .before .before .before .before .before .before .before .before .before .before .before .before .before .before .before .before .before .args .line .generated) (c .before .before .before .before .before .before .before .before .before .before .before .before .when .ensures) (c .before .before .before .before .before .before .before .before .before .before .before .before .before .before .before .before .before .pre .small .generated))
@@ -68,13 +68,13 @@ mul-t19 : tie.Need-mul-t19
 mul-t19 c = product-fits 10000000 5000 (when-le (c .before .before .before .before .before .before .before .before .before .before .before .before .before .before .before .measures-generated .result) (c .before .before .before .before .before .before .before .before .before .before .before .before .before .before .before .before .before .before .args .line .generated) (c .before .before .before .before .before .before .before .before .before .before .before .before .before .when .ensures) (c .before .before .before .before .before .before .before .before .before .before .before .before .before .before .before .before .before .before .pre .small .generated)) (c .before .before .before .before .before .before .before .before .before .before .before .before .before .before .before .before .before .before .pre .small .eerp) tt
 
 add-t20 : tie.Need-add-t20
-add-t20 c = omega (arith, c .before .before .before .before .before .before .before .before .before .before .before .before .before .before .before .before .before .before .before .pre .weighed, mul-le-mul (when-le (c .before .before .before .before .before .before .before .before .before .before .before .before .before .before .before .before .measures-generated .result) (c .before .before .before .before .before .before .before .before .before .before .before .before .before .before .before .before .before .before .before .args .line .generated) (c .before .before .before .before .before .before .before .before .before .before .before .before .before .before .when .ensures) (c .before .before .before .before .before .before .before .before .before .before .before .before .before .before .before .before .before .before .before .pre .small .generated)) (c .before .before .before .before .before .before .before .before .before .before .before .before .before .before .before .before .before .before .before .pre .small .eerp))
+add-t20 c = omega (arith, c .before .before .before .before .before .before .before .before .before .before .before .before .before .before .before .before .before .before .before .pre .generatedLosses, mul-le-mul (when-le (c .before .before .before .before .before .before .before .before .before .before .before .before .before .before .before .before .measures-generated .result) (c .before .before .before .before .before .before .before .before .before .before .before .before .before .before .before .before .before .before .before .args .line .generated) (c .before .before .before .before .before .before .before .before .before .before .before .before .before .before .when .ensures) (c .before .before .before .before .before .before .before .before .before .before .before .before .before .before .before .before .before .before .before .pre .small .generated)) (c .before .before .before .before .before .before .before .before .before .before .before .before .before .before .before .before .before .before .before .pre .small .eerp))
 
 mul-t21 : tie.Need-mul-t21
 mul-t21 c = product-fits 10000000 5000 (when-le (c .before .before .before .before .before .before .before .before .before .before .before .before .before .before .before .before .measures-generated .result) (c .before .before .before .before .before .before .before .before .before .before .before .before .before .before .before .before .before .before .before .args .line .night) (c .before .before .before .before .before .before .before .before .before .before .before .before .when2 .ensures) (c .before .before .before .before .before .before .before .before .before .before .before .before .before .before .before .before .before .before .before .pre .small .night)) (c .before .before .before .before .before .before .before .before .before .before .before .before .before .before .before .before .before .before .before .pre .small .eerp) tt
 
 add-t22 : tie.Need-add-t22
-add-t22 c = omega (arith, c .before .before .before .before .before .before .before .before .before .before .before .before .before .before .before .before .before .before .before .before .pre .valley, mul-le-mul (when-le (c .before .before .before .before .before .before .before .before .before .before .before .before .before .before .before .before .before .measures-generated .result) (c .before .before .before .before .before .before .before .before .before .before .before .before .before .before .before .before .before .before .before .before .args .line .night) (c .before .before .before .before .before .before .before .before .before .before .before .before .before .when2 .ensures) (c .before .before .before .before .before .before .before .before .before .before .before .before .before .before .before .before .before .before .before .before .pre .small .night)) (c .before .before .before .before .before .before .before .before .before .before .before .before .before .before .before .before .before .before .before .before .pre .small .eerp))
+add-t22 c = omega (arith, c .before .before .before .before .before .before .before .before .before .before .before .before .before .before .before .before .before .before .before .before .pre .nightLosses, mul-le-mul (when-le (c .before .before .before .before .before .before .before .before .before .before .before .before .before .before .before .before .before .measures-generated .result) (c .before .before .before .before .before .before .before .before .before .before .before .before .before .before .before .before .before .before .before .before .args .line .night) (c .before .before .before .before .before .before .before .before .before .before .before .before .before .when2 .ensures) (c .before .before .before .before .before .before .before .before .before .before .before .before .before .before .before .before .before .before .before .before .pre .small .night)) (c .before .before .before .before .before .before .before .before .before .before .before .before .before .before .before .before .before .before .before .before .pre .small .eerp))
 
 returns : tie.Need-returns
 returns c =

@@ -7,8 +7,8 @@ use borrow.Author.Count.{below-more}
 use lib.ListN.{length, getD, set, length-set}
 use lib.Seq.{getD-set-same, getD-set-other}
 use Rattle.park_bill.specs.Totals.{startFlow, noInputs, noTransits, noFlow}
-use Rattle.park_bill.proofs.walk.start.Statement.{statement}
-use Rattle.park_bill.proofs.walk.start.Tie as tie
+use Rattle.park_bill.proofs.walk.before_transits.Statement.{statement}
+use Rattle.park_bill.proofs.walk.before_transits.Tie as tie
 
 abbrev Inv-loop : tie.InvT-loop
 Inv-loop sites sums last flows₀ k₀ flows k =
@@ -77,8 +77,8 @@ returns c =
       flow = λ k h. l .inv .1 .1 .1 k (omega (arith, c .loop-test .left, l .inv));
     }
 
-pub start-spec : {M : Type 1} → statement M
-start-spec =
+pub before-transits-spec : {M : Type 1} → statement M
+before-transits-spec =
     tie.close
     (tie.spec
     Inv-loop

@@ -1,7 +1,7 @@
-use Prim.Native.Nat.{ℕ, _+_, _*_, _-_, _≤_, _<_}
+use Prim.Native.Nat.{ℕ, _+_, _*_, _-_, _≤_}
 use native.Mathlib.Nat.{le-antisymm}
 use native.Mathlib.Omega.{arith}
-use mathlib.Core.Path.{_≡_, refl, sym, ap, subst, _∙_}
+use mathlib.Core.Path.{_≡_, sym, ap, subst, _∙_}
 use mathlib.Core.List.{List}
 use borrow.Author.Needs.{needs}
 use denote.Ref.{now}
@@ -13,8 +13,8 @@ use Rattle.park_format.specs.declared.header.Header.{Header}
 use Rattle.park_format.specs.declared.line.Line.{Line}
 use Rattle.park_bill.proofs.Parks.{header-kept, Turn, turn}
 use Rattle.park_bill.proofs.Walks.{store, flows-more, flow-room, flow-none}
-use Rattle.park_bill.proofs.walk.drain.Statement.{statement}
-use Rattle.park_bill.proofs.walk.drain.Tie as tie
+use Rattle.park_bill.proofs.walk.after_transits.Statement.{statement}
+use Rattle.park_bill.proofs.walk.after_transits.Tie as tie
 
 abbrev Inv-loop : tie.InvT-loop
 Inv-loop file at lines flows₀ i₀ flows i =
@@ -165,8 +165,8 @@ returns c =
       flow = λ k h. l .inv .1 .1 .1 .1 k (subst (λ (x : Header). k ≤ x .sites) (s .pre .0 .1) h) ∙ ap (λ (n : ℕ). flowAfter (getD (s .args .before) k noFlow) (transits k (linesOf file (headerOf file .sites) n))) (sym end);
     }
 
-pub drain-spec : {M : Type 1} → statement M
-drain-spec =
+pub after-transits-spec : {M : Type 1} → statement M
+after-transits-spec =
     tie.close
     (tie.spec
     Inv-loop

@@ -1,0 +1,51 @@
+use Prim.Native.Nat.{ℕ}
+use mathlib.Core.Logic.{_⊎_}
+use mathlib.Core.Path.{sym, ap, _∙_}
+use denote.Ref.{now}
+use Rattle.park_bill.specs.Reply.{siteAnswer}
+use Rattle.park_bill.specs.declared.bill.Bill.{Bill}
+use Rattle.park_c.specs.Outcome.{numberOf, numbersAfter, placeOf}
+use borrow.Author.Needs.{needs}
+use Rattle.park_c.proofs.park_bill_site.Statement.{statement}
+use Rattle.park_c.proofs.park_bill_site.Tie as tie
+
+bill-site-requires : tie.Need-bill-site-requires
+bill-site-requires c κs = search needs
+
+enum-known-r : tie.Need-enum-known-r
+enum-known-r c = search needs
+
+cast-place : tie.Need-cast-place
+cast-place c = search needs
+
+cast-result : tie.Need-cast-result
+cast-result c = search needs
+
+enum-known-b : tie.Need-enum-known-b
+enum-known-b c = search needs
+
+write-requires : tie.Need-write-requires
+write-requires c κs = search needs
+
+returns : tie.Need-returns
+returns c =
+    let e = sym (ap siteAnswer (c .before .before .before .r .given .1)) ∙ c .before .before .before .before .before .bill-site .ensures in
+    (ap numberOf e, (ap (λ (o : (ℕ × ℕ) ⊎ Bill). numbersAfter o (now (c .before .before .before .before .before .before .before .args .bill))) e, ap placeOf e))
+
+returns-2 : tie.Need-returns-2
+returns-2 c =
+    let e = sym (ap siteAnswer (c .before .before .before .b .given .1)) ∙ c .before .before .before .before .before .bill-site .ensures in
+    (ap numberOf e, (c .write .ensures ∙ ap (λ (o : (ℕ × ℕ) ⊎ Bill). numbersAfter o (now (c .before .before .before .before .before .before .before .args .bill))) e, ap placeOf e))
+
+pub park-bill-site-spec : {M : Type 1} → statement M
+park-bill-site-spec =
+    tie.close
+    (tie.spec
+    bill-site-requires
+    enum-known-r
+    cast-place
+    cast-result
+    enum-known-b
+    write-requires
+    returns
+    returns-2)

@@ -1,0 +1,78 @@
+// The three calls for C and Rust. Each returns a refusal's number, or 0, and writes its place, or 0.
+use park_bill::call::ParkReply;
+use park_bill::call::SiteReply;
+use park_format::rule::Verdict;
+ghost use mathlib.Core.Path.{_≡_};
+ghost use Rattle.park_format.specs.Rules.{refusal};
+ghost use Rattle.park_bill.specs.Reply.{listAfter, parkOutcome, siteOutcome};
+ghost use Rattle.park_c.specs.Outcome.{checked, numberOf, numbersAfter, placeOf, sitesOf};
+
+// Checks a file.
+#[no_mangle]
+pub extern "C" fn park_check(file: &[u8], place: &mut u64) -> u64
+    ensures number { λ r. ⌜ r ≡ numberOf (checked (refusal (now (file .entry)))) ⌝ }
+    ensures place { λ r. ⌜ now (place .exit) ≡ placeOf (checked (refusal (now (file .entry)))) ⌝ }
+{
+    match park_format::check(file) {
+        Verdict::Refused(r) => {
+            *place = r.place as u64;
+            r.number as u64
+        }
+        Verdict::Accepted => {
+            *place = 0;
+            0
+        }
+    }
+}
+
+// Bills one site; a refusal leaves the bill as it was.
+#[no_mangle]
+pub extern "C" fn park_bill_site(
+    file: &[u8],
+    bill: &mut [u64; 11],
+    site: u64,
+    place: &mut u64,
+) -> u64
+    ensures number { λ r. ⌜ r ≡ numberOf (siteOutcome (now (file .entry)) site) ⌝ }
+    ensures bill { λ r. ⌜ now (bill .exit) ≡ numbersAfter (siteOutcome (now (file .entry)) site) (now (bill .entry)) ⌝ }
+    ensures place { λ r. ⌜ now (place .exit) ≡ placeOf (siteOutcome (now (file .entry)) site) ⌝ }
+{
+    match park_bill::bill_site(file, site) {
+        SiteReply::Refused(r) => {
+            *place = r.place as u64;
+            r.number as u64
+        }
+        SiteReply::Billed(b) => {
+            b.write(bill);
+            *place = 0;
+            0
+        }
+    }
+}
+
+// Bills every site into a list, and writes the number of sites; a refusal leaves the list as it was and writes 0 sites.
+#[no_mangle]
+pub extern "C" fn park_bill_park(
+    file: &[u8],
+    list: &mut [u64],
+    place: &mut u64,
+    sites: &mut u64,
+) -> u64
+    ensures number { λ r. ⌜ r ≡ numberOf (parkOutcome (now (file .entry)) (now (list .entry))) ⌝ }
+    ensures list { λ r. ⌜ now (list .exit) ≡ listAfter (now (file .entry)) (now (list .entry)) ⌝ }
+    ensures place { λ r. ⌜ now (place .exit) ≡ placeOf (parkOutcome (now (file .entry)) (now (list .entry))) ⌝ }
+    ensures sites { λ r. ⌜ now (sites .exit) ≡ sitesOf (parkOutcome (now (file .entry)) (now (list .entry))) ⌝ }
+{
+    match park_bill::bill_park(file, list) {
+        ParkReply::Refused(r) => {
+            *place = r.place as u64;
+            *sites = 0;
+            r.number as u64
+        }
+        ParkReply::Billed(count) => {
+            *place = 0;
+            *sites = count;
+            0
+        }
+    }
+}

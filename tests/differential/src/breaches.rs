@@ -1,0 +1,183 @@
+//! Deliberate breaches of rules 1 to 19 (01, "Where each thing is checked"), each with the number
+//! and place it must be refused with. They fit any accepted park; a breach is a few bytes set, or
+//! another length, so that nothing here goes through the calculator.
+
+use crate::park::{line_offset, site_offset, Park, HEADER_BYTES, MONTH_HOURS};
+
+/// A field set to a value: offset, width, value.
+type Patch = (usize, usize, u64);
+
+#[derive(Clone, Debug)]
+pub struct Breach {
+    pub number: u64,
+    pub place: u64,
+    pub patches: Vec<Patch>,
+    pub length: Option<usize>,
+}
+
+impl Breach {
+    fn new(number: u64, place: usize, patches: Vec<Patch>) -> Breach {
+        Breach { number, place: place as u64, patches, length: None }
+    }
+
+    /// The file with the fields set, and only then cut or lengthened (by zero bytes).
+    pub fn apply(&self, file: &mut Vec<u8>) {
+        for (offset, width, value) in &self.patches {
+            let bytes = value.to_le_bytes();
+            file[*offset..offset + width].copy_from_slice(&bytes[..*width]);
+        }
+        if let Some(length) = self.length {
+            file.resize(length, 0);
+        }
+    }
+
+    /// Where it stands in the order of checking: header and length, sites, lines, park.
+    pub fn order(&self) -> (u64, u64, u64) {
+        let stage = match self.number {
+            1..=9 => 1,
+            10..=13 => 2,
+            14..=18 => 3,
+            _ => 4,
+        };
+        (stage, self.place, self.number)
+    }
+
+    /// Whether both set some byte, or both change the length.
+    pub fn clashes_with(&self, other: &Breach) -> bool {
+        let overlaps = |(start, width, _): &Patch, (other, other_width, _): &Patch| {
+            *start < other + other_width && *other < start + width
+        };
+        self.length.is_some() && other.length.is_some()
+            || self.patches.iter().any(|one| other.patches.iter().any(|two| overlaps(one, two)))
+    }
+}
+
+/// Rules 1 to 9.
+pub fn of_header(park: &Park) -> Vec<Breach> {
+    let length = line_offset(park.sites.len(), park.lines.len() + 1);
+    let hours = MONTH_HOURS[park.month as usize - 1] as u64;
+    let fields = [
+        (2, 0, 1, vec![b'p' as u64, 0]),
+        (2, 1, 1, vec![b'r' as u64, 0xFF]),
+        (2, 2, 1, vec![b'k' as u64, b'L' as u64]),
+        (3, 3, 2, vec![0, 2, 0x0100, 0x0101, 0xFFFF]),
+        (4, 5, 1, vec![0, 13, 255]),
+        (5, 6, 1, vec![0, 17, 255]),
+        (6, 7, 1, vec![0, 65, 255]),
+        (7, 8, 4, vec![0, 2_000_001, 0xFFFF_FFFF]),
+        (8, 12, 2, vec![hours + 1, 0xFFFF]),
+    ];
+    let mut breaches = Vec::new();
+    for (number, offset, width, values) in fields {
+        for value in values {
+            breaches.push(Breach::new(number, 0, vec![(offset, width, value)]));
+        }
+    }
+    let lengths = (0..HEADER_BYTES).map(|length| (1, length)).chain([
+        (9, HEADER_BYTES),
+        (9, length - 1),
+        (9, length + 1),
+        (9, length + 0x1_0000),
+    ]);
+    for (number, length) in lengths {
+        breaches.push(Breach { length: Some(length), ..Breach::new(number, 0, vec![]) });
+    }
+    breaches
+}
+
+/// Rules 10 to 13 at one site.
+pub fn of_site(site: usize) -> Vec<Breach> {
+    let start = site_offset(site);
+    let field = |number, offset, width, value| {
+        Breach::new(number, site, vec![(start + offset, width, value)])
+    };
+    let devices = |flag, compensation, motors| {
+        let patches =
+            vec![(start + 4, 1, flag), (start + 5, 2, compensation), (start + 7, 2, motors)];
+        Breach::new(12, site, patches)
+    };
+    vec![
+        field(10, 0, 4, 0),
+        field(10, 0, 4, 1_000_001),
+        field(10, 0, 4, 0xFFFF_FFFF),
+        field(11, 4, 1, 2),
+        field(11, 4, 1, 255),
+        devices(1, 20_001, 0),
+        devices(1, 0, 20_001),
+        devices(1, 0xFFFF, 20_000),
+        devices(0, 1, 0),
+        devices(0, 0, 1),
+        devices(0, 256, 256),
+        field(13, 9, 2, 1_001),
+        field(13, 9, 2, 0xFFFF),
+    ]
+}
+
+/// Rules 14 to 18 at one line.
+pub fn of_line(park: &Park, place: usize) -> Vec<Breach> {
+    let start = line_offset(park.sites.len(), place);
+    let mark = park.lines[place - 1].meters as u64;
+    let fields = [
+        (15, 2, 1, vec![4, 5, 8, mark | 128]),
+        (16, 3, 2, vec![0, 5_001, 0xFFFF]),
+        (17, 5, 4, vec![10_000_001, 0xFFFF_FFFF]),
+        (17, 9, 4, vec![10_000_001]),
+        (17, 13, 4, vec![10_000_001]),
+        (17, 17, 4, vec![10_000_001]),
+    ];
+    let mut breaches = of_ends(park, place);
+    for (number, offset, width, values) in fields {
+        for value in values {
+            breaches.push(Breach::new(number, place, vec![(start + offset, width, value)]));
+        }
+    }
+    breaches.extend(of_meters(park, place));
+    breaches
+}
+
+/// Rule 14 at one line.
+fn of_ends(park: &Park, place: usize) -> Vec<Breach> {
+    let start = line_offset(park.sites.len(), place);
+    let last = park.sites.len() as u64;
+    let mut ends =
+        vec![(0, last + 1), (last + 1, 0), (255, last), (1, 255), (0, 0), (1, 1), (last, last)];
+    if last > 1 {
+        ends.extend([(2, 1), (last, last - 1)]);
+    }
+    let breach = |(from, to)| Breach::new(14, place, vec![(start, 1, from), (start + 1, 1, to)]);
+    ends.into_iter().map(breach).collect()
+}
+
+/// Rule 18 at one line, with the mark, WQ, WG and WN set.
+fn of_meters(park: &Park, place: usize) -> Vec<Breach> {
+    let start = line_offset(park.sites.len(), place);
+    let line = &park.lines[place - 1];
+    let (mark, reactive) = (line.meters as u64, line.reactive as u64);
+    let values = [
+        (mark & 6, 1, line.generated as u64, line.night as u64),
+        (mark & 1, reactive, 1, 0),
+        (mark & 1 | 2, reactive, 1, 1),
+        (mark | 6, reactive, 0, 1),
+        (mark | 6, reactive, 9_999_999, 10_000_000),
+        (0, 10_000_000, 10_000_000, 10_000_000),
+    ];
+    let breach = |(mark, reactive, generated, night)| {
+        let fields = [(2, 1, mark), (9, 4, reactive), (13, 4, generated), (17, 4, night)];
+        let patches = fields.map(|(offset, width, value)| (start + offset, width, value));
+        Breach::new(18, place, patches.to_vec())
+    };
+    values.into_iter().map(breach).collect()
+}
+
+/// Rule 19 at one site: its input lines are turned into lines back to the network.
+pub fn of_inputs(park: &Park, site: usize) -> Breach {
+    let mut patches = Vec::new();
+    for (index, line) in park.lines.iter().enumerate() {
+        if line.to as usize == site {
+            let start = line_offset(park.sites.len(), index + 1);
+            patches.push((start, 1, site as u64));
+            patches.push((start + 1, 1, 0));
+        }
+    }
+    Breach::new(19, site, patches)
+}

@@ -1,0 +1,232 @@
+//! How often each refusal of 01 and each branch of its steps was reached. A run in which one was
+//! never reached has shown too little, and fails.
+
+use crate::balance::Balance;
+use crate::branches::{Branch, NAMES};
+use crate::park::{Line, Park, MONTH_HOURS};
+use crate::steps::{Consumption, Generation, Lines, Source, Working};
+
+pub struct Coverage {
+    /// By refusal number; place 0 counts the accepted files.
+    refusals: [u64; 22],
+    branches: Vec<u64>,
+}
+
+/// Whether rounding meets a half.
+fn half(numerator: i128, denominator: i128) -> bool {
+    2 * (numerator % denominator) == denominator
+}
+
+impl Coverage {
+    pub fn new() -> Coverage {
+        Coverage { refusals: [0; 22], branches: vec![0; NAMES.len()] }
+    }
+
+    /// Counts a reply: 0 for an accepted file.
+    pub fn reply(&mut self, number: u64) {
+        self.refusals[number as usize] += 1;
+    }
+
+    fn count(&mut self, branch: Branch, reached: bool) {
+        self.branches[branch as usize] += reached as u64;
+    }
+
+    pub fn site(&mut self, park: &Park, work: &Working) {
+        self.tangent(&work.consumption);
+        self.flows(&work.lines, &work.consumption);
+        self.generation(&work.lines, &work.generation);
+        self.reason(work);
+        if work.reason == 0 {
+            self.generation_charge(work, park.price as i128);
+            self.other_charges(work, park.price as i128);
+        }
+    }
+
+    fn tangent(&mut self, used: &Consumption) {
+        let (active, reactive, tangent) = (used.active, used.reactive, used.tangent);
+        self.count(Branch::ActiveCut, active < 0);
+        self.count(Branch::ReactiveCut, reactive < 0);
+        self.count(Branch::BothCut, active < 0 && reactive < 0);
+        self.count(Branch::TangentOfNothing, active <= 0);
+        if active > 0 {
+            let half = half(1_000 * reactive.max(0), active);
+            self.count(Branch::TangentZero, tangent == 0);
+            self.count(Branch::TangentLow, (1..=250).contains(&tangent));
+            self.count(Branch::TangentMiddle, (251..=800).contains(&tangent));
+            self.count(Branch::TangentHigh, (801..=1_999).contains(&tangent));
+            self.count(Branch::TangentLimited, reactive > 2 * active);
+            self.count(Branch::TangentHalf, half && tangent < 2_000);
+        }
+    }
+
+    fn flows(&mut self, lines: &Lines, used: &Consumption) {
+        for line in &lines.inputs {
+            self.count(Branch::InputMetered, line.measures_reactive());
+            self.count(Branch::InputEstimated, !line.measures_reactive());
+        }
+        for line in &lines.transits {
+            let estimated = !line.measures_reactive();
+            let product = line.active as i128 * used.tangent.min(800);
+            self.count(Branch::TransitMetered, !estimated);
+            self.count(Branch::TransitEstimated, estimated && used.tangent < 800);
+            self.count(Branch::TransitEstimatedLimited, estimated && used.tangent > 800);
+            self.count(Branch::TransitHalf, estimated && half(product, 1_000));
+        }
+        self.count(Branch::ConsumptionCut, used.energy < 0);
+        self.count(Branch::LossesCut, used.losses < 0);
+        self.count(Branch::LossesCutOnly, used.losses < 0 && used.energy > 0);
+        self.count(Branch::ConsumptionCutOnly, used.energy < 0 && used.losses > 0);
+    }
+
+    fn generation(&mut self, lines: &Lines, made: &Generation) {
+        let nothing = made.source == Source::Nothing;
+        let by_day = made.source == Source::Metered;
+        let at_night = made.source == Source::MeteredAtNight;
+        let computed = made.source == Source::Computed;
+        let reads = |line: &&Line| line.generated != 0;
+        let inputs_at_night = lines.inputs.iter().all(|line| line.measures_night());
+        let transit_left_out = lines.transits.iter().any(|line| !line.measures_generated());
+        self.count(Branch::FlagZero, nothing);
+        self.count(Branch::FlagZeroMetered, nothing && lines.inputs.iter().all(reads));
+        self.count(Branch::Metered, by_day);
+        self.count(Branch::MeteredAtNight, at_night);
+        self.count(Branch::MeteredCut, (by_day || at_night) && made.energy < 0);
+        self.count(Branch::NightNotOnTransit, by_day && inputs_at_night);
+        self.count(Branch::TransitLeftOut, by_day && transit_left_out);
+        self.count(Branch::Computed, computed);
+        self.count(Branch::ComputedDespiteMeters, computed && lines.inputs.iter().any(reads));
+    }
+
+    fn reason(&mut self, work: &Working) {
+        let (little_used, little_made) =
+            (work.consumption.energy < 1_000, work.generation.energy < 10_000);
+        let (payable, weak) = (work.reason == 0, work.reason == 1);
+        self.count(Branch::ReasonNone, payable);
+        self.count(Branch::ReasonNoneByGeneration, payable && little_used);
+        self.count(Branch::ReasonPower, weak);
+        self.count(Branch::ReasonPowerBeforeTwo, weak && little_used && little_made);
+        self.count(Branch::ReasonLow, work.reason == 2);
+    }
+
+    /// Step 9.
+    fn generation_charge(&mut self, work: &Working, price: i128) {
+        let made = &work.generation;
+        let charged = work.charges.generation > 0;
+        if matches!(made.source, Source::Metered | Source::MeteredAtNight) {
+            let half = half(made.losses.max(0) * price, 10_000_000);
+            self.count(Branch::GenerationMetered, charged);
+            self.count(Branch::GenerationMeteredCut, made.losses < 0);
+            self.count(Branch::GenerationCutOnly, made.energy < 0 && made.losses > 0);
+            self.count(Branch::GenerationMeteredHalf, half);
+        }
+        if made.source == Source::Computed {
+            let inputs = &work.lines.inputs;
+            let eerps: i128 = inputs.iter().map(|line| line.eerp as i128).sum();
+            let product = made.energy * made.mean_eerp * price;
+            self.count(Branch::GenerationComputed, charged);
+            self.count(Branch::GenerationComputedHalf, half(product, 100_000_000));
+            self.count(Branch::MeanHalf, charged && half(eerps, inputs.len() as i128));
+        }
+    }
+
+    /// Steps 8, 10 and 11.
+    fn other_charges(&mut self, work: &Working, price: i128) {
+        let money = &work.charges;
+        let charged = money.consumption > 0;
+        let excess = work.consumption.tangent - 250;
+        let discount = work.site.discount as i128;
+        let surcharge = money.consumption * excess * excess;
+        let discounted = (money.consumption + money.generation) * discount;
+        self.count(Branch::ChargeHalf, half(work.consumption.losses.max(0) * price, 10_000_000));
+        self.count(Branch::SurchargeNone, excess <= 0 && charged);
+        self.count(Branch::Surcharge, money.surcharge > 0);
+        self.count(Branch::SurchargeHalf, excess > 0 && half(surcharge, 1_000_000));
+        self.count(Branch::DiscountNone, discount == 0 && charged);
+        self.count(Branch::Discount, money.discount > 0);
+        self.count(Branch::DiscountHalf, half(discounted, 1_000));
+    }
+
+    pub fn balance(&mut self, balance: Option<Balance>) {
+        self.count(Branch::BalanceNotMet, balance.is_none());
+        let Some(balance) = balance else { return };
+        self.count(Branch::BalanceUncut, !balance.some_cut);
+        self.count(Branch::BalanceCut, balance.some_cut);
+        self.count(Branch::BalanceNegative, balance.network < 0);
+        if let Some((difference, most)) = balance.charge_difference {
+            self.count(Branch::BalanceCharge, true);
+            self.count(Branch::BalanceChargeExact, difference == most);
+        }
+    }
+
+    pub fn shape(&mut self, park: &Park) {
+        let (sites, lines) = (park.sites.len(), &park.lines);
+        let same_ends = |one: &Line, two: &Line| one.from == two.from && one.to == two.to;
+        let parallel =
+            (1..lines.len()).any(|i| lines[..i].iter().any(|line| same_ends(line, &lines[i])));
+        let inner_unmetered = |line: &Line| line.joins_two_sites() && !line.measures_reactive();
+        self.count(Branch::OneSiteOneLine, sites == 1 && lines.len() == 1);
+        self.count(Branch::SixteenDeep, depth(park) == 16);
+        self.count(Branch::SixtyFourLines, lines.len() == 64);
+        self.count(Branch::Parallel, parallel);
+        self.count(Branch::InnerUnmetered, lines.iter().any(inner_unmetered));
+        let back = |metered| lines.iter().any(|l| l.to == 0 && l.measures_reactive() == metered);
+        self.count(Branch::BackMetered, back(true));
+        self.count(Branch::BackEstimated, back(false));
+    }
+
+    /// Values on a limit of the table, in an accepted park.
+    pub fn limits(&mut self, park: &Park) {
+        self.count(Branch::LimitPriceLeast, park.price == 1);
+        self.count(Branch::LimitPriceMost, park.price == 2_000_000);
+        self.count(Branch::LimitHoursLeast, park.hours == 0);
+        self.count(Branch::LimitHoursMost, park.hours == MONTH_HOURS[park.month as usize - 1]);
+        for site in &park.sites {
+            self.count(Branch::LimitPowerLeast, site.power == 1);
+            self.count(Branch::LimitPowerUnpayable, site.power == 15);
+            self.count(Branch::LimitPowerPayable, site.power == 16);
+            self.count(Branch::LimitPowerMost, site.power == 1_000_000);
+            self.count(Branch::LimitCompensation, site.compensation == 20_000);
+            self.count(Branch::LimitMotors, site.motors == 20_000);
+            self.count(Branch::LimitDiscount, site.discount == 1_000);
+        }
+        for line in &park.lines {
+            let readings = [line.active, line.reactive, line.generated, line.night];
+            let most = readings.map(|reading| reading == 10_000_000);
+            self.count(Branch::LimitReadings, readings == [0; 4]);
+            self.count(Branch::LimitActive, most[0]);
+            self.count(Branch::LimitReactive, most[1]);
+            self.count(Branch::LimitGenerated, most[2]);
+            self.count(Branch::LimitNight, most[3]);
+            self.count(Branch::LimitEerpLeast, line.eerp == 1);
+            self.count(Branch::LimitEerpMost, line.eerp == 5_000);
+        }
+    }
+
+    /// Prints every count, and returns the names of those that are 0.
+    pub fn print(&self) -> Vec<String> {
+        let refusals = self.refusals.iter().enumerate().map(|(number, count)| match number {
+            0 => ("accepted".to_string(), *count),
+            _ => (format!("refusal {number}"), *count),
+        });
+        let branches = NAMES.iter().map(|name| name.to_string()).zip(self.branches.iter().copied());
+        let mut missing = Vec::new();
+        for (name, count) in refusals.chain(branches) {
+            println!("{count:>10}  {name}");
+            if count == 0 {
+                missing.push(name);
+            }
+        }
+        missing
+    }
+}
+
+/// The most sites on a way along the lines; a line between sites goes upwards.
+fn depth(park: &Park) -> usize {
+    let mut depths = vec![1; park.sites.len() + 1];
+    for site in 1..=park.sites.len() {
+        for line in park.lines.iter().filter(|line| line.to as usize == site && line.from != 0) {
+            depths[site] = depths[site].max(depths[line.from as usize] + 1);
+        }
+    }
+    *depths.iter().max().expect("there is a site")
+}

@@ -1,0 +1,190 @@
+//! A second path, apart from the calculator, that stands in for the product: it reads raw bytes,
+//! gathers all breaches of 01's table and takes the least. Its steps are in mock_steps.rs. It can
+//! be told to make one mistake.
+
+use std::io;
+
+use crate::mistakes::Mistake;
+use crate::product::{Product, Reply, UNWRITTEN};
+use crate::steps::Bill;
+
+/// The second path, with at most one mistake.
+pub struct Mock(pub Option<Mistake>);
+
+pub fn at(file: &[u8], offset: usize, width: usize) -> i64 {
+    (0..width).map(|byte| (file[offset + byte] as i64) << (8 * byte)).sum()
+}
+
+pub fn lines(file: &[u8]) -> impl Iterator<Item = &[u8]> {
+    file[14 + 11 * file[6] as usize..].chunks_exact(21)
+}
+
+/// Hours by the calendar of a leap year; summer time takes one from March, October gets it back.
+fn hours(month: i64) -> i64 {
+    let days = 30 + (month + month / 8) % 2 - (month == 2) as i64;
+    24 * days - (month == 3) as i64 + (month == 10) as i64
+}
+
+impl Mock {
+    pub fn makes(&self, mistake: Mistake) -> bool {
+        self.0 == Some(mistake)
+    }
+
+    /// The refusal of a file, as number and place; 0 and 0 if there is none.
+    fn refusal(&self, file: &[u8]) -> (u64, u64) {
+        let header = self.header_refusal(file);
+        if header != 0 {
+            return (header, 0);
+        }
+        let mut found = Vec::new();
+        for (index, site) in file[14..].chunks_exact(11).take(file[6] as usize).enumerate() {
+            found.extend(self.site_breaches(site).map(|number| (2, index as u64 + 1, number)));
+        }
+        let stage = if self.makes(Mistake::LinesBeforeSites) { 1 } else { 3 };
+        for (index, line) in lines(file).enumerate() {
+            let breaches = self.line_breaches(line, file[6]);
+            found.extend(breaches.map(|number| (stage, index as u64 + 1, number)));
+        }
+        let unfed = (1..=file[6]).filter(|site| lines(file).all(|line| line[1] != *site));
+        let least = if self.makes(Mistake::HighestUnfedSite) { unfed.max() } else { unfed.min() };
+        found.extend(least.map(|site| (4, site as u64, 19)));
+        match found.into_iter().min() {
+            None if self.makes(Mistake::RefusesEverything) => (9, 0),
+            None => (0, 0),
+            Some((_, place, number @ 14..=18)) if self.makes(Mistake::LinePlaceFromZero) => {
+                (number, place - 1)
+            }
+            Some((2, _, number)) if self.makes(Mistake::SitePlaceLost) => (number, 0),
+            Some((_, place, number)) => (number, place),
+        }
+    }
+
+    fn header_refusal(&self, file: &[u8]) -> u64 {
+        if file.len() < 14 {
+            return 1;
+        }
+        let (month, sites, lines) = (at(file, 5, 1), at(file, 6, 1), at(file, 7, 1));
+        let more = (self.makes(Mistake::March744Hours) && month == 3) as i64;
+        let length = (14 + 11 * sites + 21 * lines) as usize;
+        let longer = file.len() > length && !self.makes(Mistake::LongerFileAccepted);
+        let sound = [
+            file.starts_with(b"PRK"),
+            at(file, 3, 2) == 1,
+            (1..=12).contains(&month),
+            (1..=16).contains(&sites),
+            (1..=64).contains(&lines),
+            (1..=2_000_000).contains(&at(file, 8, 4)),
+            at(file, 12, 2) <= hours(month) + more,
+            file.len() >= length && !longer,
+        ];
+        if self.makes(Mistake::VersionBeforeLetters) && !sound[1] {
+            return 3;
+        }
+        sound.iter().position(|sound| !sound).map_or(0, |index| index as u64 + 2)
+    }
+
+    fn site_breaches(&self, site: &[u8]) -> impl Iterator<Item = u64> {
+        let (compensation, motors) = (at(site, 5, 2), at(site, 7, 2));
+        let together = site[4] == 0 && self.makes(Mistake::DevicesRefusedOnlyTogether);
+        let devices = if together { compensation.min(motors) } else { compensation.max(motors) };
+        let most = if site[4] == 0 { 0 } else { 20_000 };
+        let breached = [
+            !(1..=1_000_000).contains(&at(site, 0, 4)),
+            site[4] > 1,
+            devices > most,
+            at(site, 9, 2) > 1_000,
+        ];
+        (10..).zip(breached).filter(|(_, breached)| *breached).map(|(number, _)| number)
+    }
+
+    fn line_breaches(&self, line: &[u8], sites: u8) -> impl Iterator<Item = u64> {
+        let (from, to, mark) = (line[0], line[1], line[2]);
+        let [active, reactive, generated, night] = [5, 9, 13, 17].map(|offset| at(line, offset, 4));
+        let forward = if from == 0 { to != 0 } else { to == 0 || from < to };
+        let back_refused = to == 0 && self.makes(Mistake::LineBackRefused);
+        let mark_five = mark == 5 && self.makes(Mistake::MarkFiveAccepted);
+        let above = night > generated && !self.makes(Mistake::NightAboveGeneratedAccepted);
+        let unmetered = [(1, reactive), (2, generated), (4, night)]
+            .iter()
+            .any(|(meter, reading)| mark & meter == 0 && *reading != 0);
+        let unmetered = unmetered && !self.makes(Mistake::ReadingWithoutMeterAccepted);
+        let most = 10_000_000 + self.makes(Mistake::ReadingLimitOneHigher) as i64;
+        let breached = [
+            from > sites || to > sites || !forward || back_refused,
+            !([0, 1, 2, 3, 6, 7].contains(&mark) || mark_five),
+            !(1..=5_000).contains(&at(line, 3, 2)),
+            active.max(reactive).max(generated).max(night) > most,
+            unmetered || above,
+        ];
+        (14..).zip(breached).filter(|(_, breached)| *breached).map(|(number, _)| number)
+    }
+
+    fn reply(&self, (number, place): (u64, u64)) -> Reply {
+        let unwritten = number == 0 && self.makes(Mistake::PlaceLeftUnwritten);
+        Reply { number, place: if unwritten { UNWRITTEN } else { place } }
+    }
+}
+
+impl Product for Mock {
+    fn check(&self, file: &[u8]) -> Reply {
+        self.reply(self.refusal(file))
+    }
+
+    fn bill_site(&self, file: &[u8], bill: &mut Bill, site: u64) -> Reply {
+        let site = if self.makes(Mistake::SiteTakenAsByte) { site & 255 } else { site };
+        let mut refusal = self.refusal(file);
+        if refusal.0 == 0 && (site == 0 || site > file[6] as u64) {
+            refusal = (20, 0);
+        }
+        if refusal.0 == 0 {
+            *bill = self.bills(file)[site as usize - 1];
+        } else if self.makes(Mistake::BillWrittenOnRefusal) {
+            *bill = [0; 11];
+        }
+        self.reply(refusal)
+    }
+
+    fn bill_park(&self, file: &[u8], list: &mut [u64]) -> (Reply, u64) {
+        let mut refusal = self.refusal(file);
+        let least = 11 * file.get(6).map_or(0, |sites| *sites as usize);
+        let longer = list.len() > least && self.makes(Mistake::LongerListRefused);
+        let short = list.len() < least && !self.makes(Mistake::ShortListAccepted);
+        if refusal.0 == 0 && (short || longer) {
+            refusal = (21, 0);
+        }
+        if refusal.0 != 0 {
+            if self.makes(Mistake::ListWrittenOnRefusal) && !list.is_empty() {
+                list[0] = 0;
+            }
+            return (self.reply(refusal), 0);
+        }
+        for (place, number) in list.iter_mut().zip(self.bills(file).as_flattened()) {
+            *place = *number;
+        }
+        if self.makes(Mistake::WritesPastTheBills) && list.len() > least {
+            list[least] = 0;
+        }
+        let by_length = self.makes(Mistake::SitesFromListLength);
+        (self.reply(refusal), if by_length { list.len() as u64 / 11 } else { file[6] as u64 })
+    }
+
+    fn printed(&self, file: &[u8]) -> io::Result<Vec<u8>> {
+        let mut text = match self.refusal(file) {
+            (0, _) => table(&self.bills(file)),
+            (number, place) => format!("refused,{number},{place}\n"),
+        };
+        if self.makes(Mistake::LastNewlineMissing) {
+            text.pop();
+        }
+        Ok(text.into_bytes())
+    }
+}
+
+fn table(bills: &[Bill]) -> String {
+    let names = "site,consumption,tg,settled,cut,generation,pc,pg,p2,p3,total,reason\n";
+    let row = |(site, bill): (usize, &Bill)| {
+        let numbers: Vec<String> = bill.iter().map(u64::to_string).collect();
+        format!("{},{}\n", site + 1, numbers.join(","))
+    };
+    names.to_string() + &bills.iter().enumerate().map(row).collect::<String>()
+}

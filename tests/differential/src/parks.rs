@@ -1,0 +1,67 @@
+//! Park Alder and its cut neighbour (01, "Park Alder, and its neighbours"), and short ways to write
+//! other parks by hand.
+
+use crate::park::{Line, Park, Site};
+
+/// What parkbill prints for Park Alder.
+pub const ALDER_PRINTED: &str = "\
+site,consumption,tg,settled,cut,generation,pc,pg,p2,p3,total,reason
+1,26000,867,17270000,0,100000,863500,334500,328725,0,1526725,0
+2,8000,533,5476000,0,0,273800,0,21928,27380,268348,0
+";
+
+/// Park Alder byte by byte, as "The park file" lays it out.
+#[rustfmt::skip]
+pub const ALDER_FILE: [u8; 99] = [
+    b'P', b'R', b'K', 1, 0, 4, 2, 3, 0x20, 0xA1, 0x07, 0, 200, 0,
+    0x90, 0x01, 0, 0, 1, 50, 0, 0, 0, 0, 0,
+    100, 0, 0, 0, 0, 0, 0, 0, 0, 100, 0,
+    0, 1, 1, 0x9D, 0x02, 0x40, 0x9C, 0, 0, 0x30, 0x75, 0, 0, 0, 0, 0, 0, 0, 0, 0, 0,
+    1, 2, 1, 0xBC, 0x02, 0x10, 0x27, 0, 0, 0xA0, 0x0F, 0, 0, 0, 0, 0, 0, 0, 0, 0, 0,
+    0, 2, 0, 0x9D, 0x02, 0x88, 0x13, 0, 0, 0, 0, 0, 0, 0, 0, 0, 0, 0, 0, 0, 0,
+];
+
+/// A line from its eight fields in the paper's order: from, to, mark, D, WP, WQ, WG, WN.
+pub fn line([from, to, meters, eerp, active, reactive, generated, night]: [u32; 8]) -> Line {
+    let (from, to, meters, eerp) = (from as u8, to as u8, meters as u8, eerp as u16);
+    Line { from, to, meters, eerp, active, reactive, generated, night }
+}
+
+/// A site from its five fields in the paper's order: power, flag, Q, P, h.
+pub fn site([power, flag, compensation, motors, discount]: [u32; 5]) -> Site {
+    let (compensation, motors) = (compensation as u16, motors as u16);
+    Site { power, flag: flag as u8, compensation, motors, discount: discount as u16 }
+}
+
+/// Park Alder.
+pub fn alder() -> Park {
+    Park {
+        month: 4,
+        price: 500_000,
+        hours: 200,
+        sites: vec![site([400, 1, 50, 0, 0]), site([100, 0, 0, 0, 100])],
+        lines: vec![
+            line([0, 1, 1, 669, 40_000, 30_000, 0, 0]),
+            line([1, 2, 1, 700, 10_000, 4_000, 0, 0]),
+            line([0, 2, 0, 669, 5_000, 0, 0, 0]),
+        ],
+    }
+}
+
+/// Alder with WQ 40,000 on line 2.
+pub fn alder_cut() -> Park {
+    let mut park = alder();
+    park.lines[1].reactive = 40_000;
+    park
+}
+
+/// A park with these sites and lines at price T.
+pub fn small_park(price: u32, sites: &[[u32; 5]], lines: &[[u32; 8]]) -> Park {
+    let sites = sites.iter().copied().map(site).collect();
+    Park { month: 4, price, hours: 3, sites, lines: lines.iter().copied().map(line).collect() }
+}
+
+/// A park of one plain site, fed by one metered line with this D, WP and WQ.
+pub fn one_line(price: u32, eerp: u32, active: u32, reactive: u32) -> Park {
+    small_park(price, &[[400, 0, 0, 0, 0]], &[[0, 1, 1, eerp, active, reactive, 0, 0]])
+}

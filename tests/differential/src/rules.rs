@@ -1,0 +1,94 @@
+//! What is refused, and in which order (01, "Where each thing is checked"): rules 1 to 19.
+//! Rules 20 and 21 belong to the calls, in calculator.rs.
+
+use crate::park::{number_at, Line, Park, Site};
+use crate::park::{HEADER_BYTES, LINE_BYTES, MONTH_HOURS, SITE_BYTES};
+
+/// A refusal: its number in the table, and its place, which is the site or line counted from 1
+/// for 10 to 19, else 0.
+#[derive(Clone, Copy, Debug, PartialEq, Eq)]
+pub struct Refusal {
+    pub number: u64,
+    pub place: u64,
+}
+
+/// Refuses with this number and place if the condition holds.
+pub fn refuse_if(condition: bool, number: u64, place: usize) -> Result<(), Refusal> {
+    if condition {
+        return Err(Refusal { number, place: place as u64 });
+    }
+    Ok(())
+}
+
+/// The park of an accepted file, or the first refusal met: the header and the length by number,
+/// then each site, then each line, then 19.
+pub fn accepted_park(file: &[u8]) -> Result<Park, Refusal> {
+    check_header(file)?;
+    check_length(file)?;
+    let park = Park::from_file(file);
+    for (index, site) in park.sites.iter().enumerate() {
+        check_site(site, index + 1)?;
+    }
+    for (index, line) in park.lines.iter().enumerate() {
+        check_line(line, index + 1, park.sites.len())?;
+    }
+    check_inputs(&park)?;
+    Ok(park)
+}
+
+/// Rules 1 to 8.
+fn check_header(file: &[u8]) -> Result<(), Refusal> {
+    refuse_if(file.len() < HEADER_BYTES, 1, 0)?;
+    let month = file[5] as usize;
+    let (sites, lines) = (file[6], file[7]);
+    let price = number_at(file, 8, 4);
+    let hours = number_at(file, 12, 2);
+    refuse_if(&file[0..3] != b"PRK", 2, 0)?;
+    refuse_if(number_at(file, 3, 2) != 1, 3, 0)?;
+    refuse_if(!(1..=12).contains(&month), 4, 0)?;
+    refuse_if(sites == 0 || sites > 16, 5, 0)?;
+    refuse_if(lines == 0 || lines > 64, 6, 0)?;
+    refuse_if(price == 0 || price > 2_000_000, 7, 0)?;
+    refuse_if(hours > MONTH_HOURS[month - 1] as u64, 8, 0)
+}
+
+/// Rule 9.
+fn check_length(file: &[u8]) -> Result<(), Refusal> {
+    let (sites, lines) = (file[6] as usize, file[7] as usize);
+    refuse_if(file.len() != HEADER_BYTES + SITE_BYTES * sites + LINE_BYTES * lines, 9, 0)
+}
+
+/// Rules 10 to 13, for one site.
+fn check_site(site: &Site, place: usize) -> Result<(), Refusal> {
+    let (compensation, motors) = (site.compensation, site.motors);
+    let devices = compensation != 0 || motors != 0;
+    refuse_if(site.power == 0 || site.power > 1_000_000, 10, place)?;
+    refuse_if(site.flag > 1, 11, place)?;
+    refuse_if(compensation > 20_000 || motors > 20_000 || devices && site.flag == 0, 12, place)?;
+    refuse_if(site.discount > 1_000, 13, place)
+}
+
+/// Rules 14 to 18, for one line.
+fn check_line(line: &Line, place: usize, sites: usize) -> Result<(), Refusal> {
+    let above = line.from as usize > sites || line.to as usize > sites;
+    let both_network = line.from == 0 && line.to == 0;
+    let backwards = line.joins_two_sites() && line.from >= line.to;
+    refuse_if(above || both_network || backwards, 14, place)?;
+    refuse_if(line.meters > 7 || line.measures_night() && !line.measures_generated(), 15, place)?;
+    refuse_if(line.eerp == 0 || line.eerp > 5_000, 16, place)?;
+    let readings = [line.active, line.reactive, line.generated, line.night];
+    refuse_if(readings.iter().any(|reading| *reading > 10_000_000), 17, place)?;
+    let unmetered = line.reactive != 0 && !line.measures_reactive()
+        || line.generated != 0 && !line.measures_generated()
+        || line.night != 0 && !line.measures_night();
+    refuse_if(unmetered || line.night > line.generated, 18, place)
+}
+
+/// Rule 19; the place is the lowest site without an input line.
+fn check_inputs(park: &Park) -> Result<(), Refusal> {
+    for site in 1..=park.sites.len() {
+        let fed = park.lines.iter().any(|line| line.to as usize == site);
+        refuse_if(!fed, 19, site)?;
+    }
+    Ok(())
+}

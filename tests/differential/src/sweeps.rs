@@ -1,0 +1,75 @@
+//! Sweeps: every value of one thing while the rest stays, in places where a table or a byte may be
+//! wrong at a single value.
+
+use crate::compare::Tester;
+use crate::park::{Park, MONTH_HOURS};
+use crate::parks::{alder, line, one_line, site, small_park};
+
+pub fn run(tester: &mut Tester) {
+    every_byte(tester);
+    hours_of_months(tester);
+    ends_of_lines(tester);
+    tangents(tester);
+    around_the_reasons(tester);
+}
+
+/// Park Alder with each byte set to each value.
+fn every_byte(tester: &mut Tester) {
+    let mut file = alder().to_file();
+    for offset in 0..file.len() {
+        let before = file[offset];
+        for value in 0..=255 {
+            file[offset] = value;
+            tester.file(&format!("Alder, byte {offset} set to {value}"), &file);
+        }
+        file[offset] = before;
+    }
+}
+
+/// Rule 8: each month's most hours, and one more.
+fn hours_of_months(tester: &mut Tester) {
+    for month in 1..=12 {
+        let most = MONTH_HOURS[month as usize - 1];
+        for hours in [most - 1, most, most + 1] {
+            let file = Park { month, hours, ..alder() }.to_file();
+            tester.file(&format!("month {month}, t {hours}"), &file);
+        }
+    }
+}
+
+/// Rule 14: every two ends up to two above the most sites, on a line that feeds no site alone.
+fn ends_of_lines(tester: &mut Tester) {
+    for sites in [1, 2, 15, 16] {
+        let mut park = Park { sites: vec![site([16, 0, 0, 0, 0]); sites], ..alder() };
+        park.lines = (1..=sites as u32).map(|to| line([0, to, 0, 1, 1_000, 0, 0, 0])).collect();
+        for (from, to) in (0..=18).flat_map(|from| (0..=18).map(move |to| (from, to))) {
+            park.lines.push(line([from, to, 1, 1, 500, 400, 0, 0]));
+            tester.file(&format!("{sites} sites, a line {from} to {to}"), &park.to_file());
+            park.lines.pop();
+        }
+    }
+}
+
+/// Steps 2 and 10: every tangent from 0 to 2,000 and a little more, with small and large charges.
+fn tangents(tester: &mut Tester) {
+    for tangent in 0..=2_010 {
+        for (price, active, eerp) in [(1_999_999, 4_000_000, 4_999), (500_000, 30_000, 7)] {
+            let park = one_line(price, eerp, active, active / 1_000 * tangent);
+            tester.file(&format!("tg {tangent}, T {price}"), &park.to_file());
+        }
+    }
+}
+
+/// Step 7: consumption and generation on both sides of their limits, for powers around 16.
+fn around_the_reasons(tester: &mut Tester) {
+    for power in [1, 14, 15, 16, 17, 271, 65_551, 65_552] {
+        for (reactive, generated) in
+            (998..=1_001).flat_map(|one| (998..=1_001).map(move |two| (one, two)))
+        {
+            let lines = [[0, 1, 3, 5_000, 2_000, reactive, generated, 0]];
+            let park = small_park(2_000_000, &[[power, 1, 0, 0, 333]], &lines);
+            let name = format!("power {power}, WQ {reactive}, WG {generated}");
+            tester.file(&name, &park.to_file());
+        }
+    }
+}
