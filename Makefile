@@ -1,8 +1,10 @@
 # make bill FILE=examples/alder.prk    builds what is needed and bills a park file
 # make test                            proves everything from nothing and runs all tests
 # make examples                        the example files alone, with the program as last built
+# make self-test                       holds the test program to finding 42 wrong calculators
+# make bench                           times the calls beside plain Rust
 
-.PHONY: bill test examples
+.PHONY: bill test examples self-test bench library
 
 bill:
 	@test -n "$(FILE)" || { echo "usage: make bill FILE=examples/alder.prk" >&2; exit 2; }
@@ -14,3 +16,12 @@ test:
 
 examples:
 	@sh tests/examples
+
+library:
+	@rt staticlib park_c >&2
+
+self-test: library
+	@cargo run --offline --release --quiet --manifest-path tests/differential/Cargo.toml -- self-test
+
+bench: library
+	@cargo run --offline --release --quiet --manifest-path bench/Cargo.toml

@@ -26,7 +26,7 @@ use Rattle.park_bill.specs.Balance.{overSites, EachSite, Measured, comin
 use Rattle.park_bill.proofs.Sums.{sumBy-select}
 
 -- sums over sites 1 to n
-over-cong : (f g : ℕ → ℕ) (n : ℕ) → EachSite (λ (k : ℕ). f k ≡ g k) n → overSites f n ≡ overSites g n
+pub over-cong : (f g : ℕ → ℕ) (n : ℕ) → EachSite (λ (k : ℕ). f k ≡ g k) n → overSites f n ≡ overSites g n
 unfolding overSites
 over-cong f g zero e = refl
 over-cong f g (suc n) e = ap₂ _+_ (over-cong f g n (λ k l h. e k l (omega arith))) (e (suc n) (omega arith) (omega arith))
@@ -36,12 +36,12 @@ unfolding overSites
 over-add f g zero = refl
 over-add f g (suc n) = omega (arith, over-add f g n)
 
-over-none : (n : ℕ) → overSites (λ (k : ℕ). 0) n ≡ 0
+pub over-none : (n : ℕ) → overSites (λ (k : ℕ). 0) n ≡ 0
 unfolding overSites
 over-none zero = refl
 over-none (suc n) = omega (arith, over-none n)
 
-over-zero : (f : ℕ → ℕ) (n : ℕ) → overSites f n ≡ 0 → EachSite (λ (k : ℕ). f k ≡ 0) n
+pub over-zero : (f : ℕ → ℕ) (n : ℕ) → overSites f n ≡ 0 → EachSite (λ (k : ℕ). f k ≡ 0) n
 unfolding overSites
 over-zero f zero e k l h = absurd (not-suc-le-zero (le-trans l h))
 over-zero f (suc n) e k l h =
@@ -240,9 +240,5 @@ module _ (p : Park) (kept : Every (KeptLine (p .header .sites)) (p .lines)) (mea
       record {
         balance = in-balance;
         uncut = (λ e. over-zero _ s (nothing-added (networkEnergy p) _ (sym e ∙ in-balance)), equal-uncut);
-        charges = λ none payable energy e.
-            subst
-            (λ (m : ℕ). (2 * (10000000 * overSites (λ (k : ℕ). bills k 6) s) ≤ 2 * (m * p .header .price) + 10000000 * s) × (2 * (m * p .header .price) ≤ 2 * (10000000 * overSites (λ (k : ℕ). bills k 6) s) + 10000000 * s))
-            (ap natAbs (equal-uncut none ∙ sym e))
-            (priced (λ (k : ℕ). bills k 3) (λ (k : ℕ). bills k 6) (p .header .price) s (due-charge payable));
+        charges = λ none payable. priced (λ (k : ℕ). bills k 3) (λ (k : ℕ). bills k 6) (p .header .price) s (due-charge payable);
       }

@@ -1,16 +1,17 @@
 -- The starred cases: one computed test over the list, and what it means of each entry.
 -- Assumes nothing.
 use Prim.Native.Nat.{ℕ}
-use mathlib.Core.Path.{_≡_, refl, sym, ap, ap₂}
-use mathlib.Core.Bool.{Bool, true, false, not, _&&_, true≢false}
+use mathlib.Core.Path.{_≡_, refl, sym, ap, ap₂, subst, _∙_}
+use mathlib.Core.Bool.{Bool, true, false, _&&_, _||_, true≢false}
 use mathlib.Core.List.{List, [], _∷_}
 use mathlib.Core.Option.{Option, none, some}
 use lib.Dec.{eqb}
 use lib.IntN.{ℤ, pos, negsuc}
-use borrow.Author.Tests.{eqb-true}
+use borrow.Author.Tests.{eqb-true, eq-eqb, ne-eqb}
 use Rattle.park_format.specs.Park.{headerOf, lineAt, linesOf, listOf, parkOf, select, siteAt, sitesOf}
-use Rattle.park_format.specs.Rules.{each, firstBroken, headerRules, inputRules, lineRules, mostHours, refusal, rulesOf, siteRules}
+use Rattle.park_format.specs.Rules.{each, firstBroken, headerRules, inputRules, lineRules, measuresReactive, mostHours, refusal, rulesOf, siteRules}
 use Rattle.park_format.specs.Accepted.{Every}
+use Rattle.park_format.specs.declared.line.Line.{Line}
 use Rattle.park_charge.specs.Rounding.{rounded}
 use Rattle.park_charge.specs.Flow.{inflow, outflow, tangent}
 use Rattle.park_charge.specs.Losses.{cut, settled}
@@ -18,14 +19,15 @@ use Rattle.park_charge.specs.Generation.{computedGeneration}
 use Rattle.park_charge.specs.Charge.{computedCharge, discount, lossCharge, reason, surcharge}
 use Rattle.park_bill.specs.Sums.{allOf, sumBy}
 use Rattle.park_bill.specs.Bill.{consumptionOf, generationCharge, generationOf, tangentOf, weightedSum}
-use Rattle.park_bill.specs.Reply.{billsOf}
-use Rattle.park_bill.specs.Balance.{overSites}
-use Rattle.park_bill.specs.Cases.{accepts, agree, Case, cases, holds, isPos, same, Says}
-use Rattle.park_bill.specs.Cases.Case.{balanceCase, chargeCase, oneNumber, reasonCase, surchargeCase, tangentCase, wholeBill}
+use Rattle.park_bill.specs.Reply.{billsOf, refusalWith}
+use Rattle.park_bill.specs.Balance.{EachSite, overSites}
+use Rattle.park_bill.specs.Cases.{accepts, agree, AllCases, Case, cases, equal, holds, measuredLine, numbers, same, Says, Whether}
+use Rattle.park_bill.specs.Cases.Case.{balanceCase, chargeCase, reasonCase, surchargeCase, tangentCase, wholeBill}
+use Rattle.park_bill.proofs.Balances.{over-cong, over-none, over-zero}
 
 -- the test
 all-hold : allOf holds cases ≡ true
-unfolding holds headerOf lineAt linesOf listOf parkOf select siteAt sitesOf each firstBroken headerRules inputRules lineRules mostHours refusal rulesOf siteRules rounded inflow outflow tangent cut settled computedGeneration computedCharge discount lossCharge reason surcharge allOf sumBy consumptionOf generationCharge generationOf tangentOf weightedSum billsOf overSites
+unfolding holds headerOf lineAt linesOf listOf parkOf select siteAt sitesOf each firstBroken headerRules inputRules lineRules mostHours refusal rulesOf siteRules rounded inflow outflow tangent cut settled computedGeneration computedCharge discount lossCharge reason surcharge allOf sumBy consumptionOf generationCharge generationOf tangentOf weightedSum billsOf refusalWith overSites
 all-hold = refl
 
 -- what each part of the test means
@@ -43,33 +45,91 @@ same-is [] (y ∷ ys) e = absurd (true≢false (sym e))
 same-is (x ∷ xs) [] e = absurd (true≢false (sym e))
 same-is (x ∷ xs) (y ∷ ys) e = let h = and-true (eqb x y) (same xs ys) e in ap₂ (λ (a : ℕ) (l : List ℕ). a ∷ l) (eqb-true x y (h .0)) (same-is xs ys (h .1))
 
-isPos-is : (z : ℤ) (n : ℕ) → isPos z n ≡ true → z ≡ pos n
-isPos-is (pos a) n e = ap pos (eqb-true a n e)
-isPos-is (negsuc a) n e = absurd (true≢false (sym e))
+equal-is : (y z : ℤ) → equal y z ≡ true → y ≡ z
+equal-is (pos a) (pos b) e = ap pos (eqb-true a b e)
+equal-is (pos a) (negsuc b) e = absurd (true≢false (sym e))
+equal-is (negsuc a) (pos b) e = absurd (true≢false (sym e))
+equal-is (negsuc a) (negsuc b) e = ap negsuc (eqb-true a b e)
 
-agree-is : (a b : Bool) → agree a b ≡ true → b ≡ a
-agree-is true b e = e
-agree-is false true e = absurd (true≢false (sym e))
-agree-is false false e = refl
+equal-self : (z : ℤ) → equal z z ≡ true
+equal-self (pos a) = eq-eqb a a refl
+equal-self (negsuc a) = eq-eqb a a refl
+
+-- a Boolean that agrees with what is told says whether it is so
+whether : (told test : Bool) {A : Type 0} → (test ≡ true → A) → (A → test ≡ true) → agree told test ≡ true → Whether told A
+whether true test so test-of e = so e
+whether false true so test-of e = absurd (true≢false (sym e))
+whether false false so test-of e = λ a. true≢false (sym (test-of a))
+
+abbrev Metered : Line → Type 0
+Metered l = (l .from ≡ 0 → ⊥) → (l .to ≡ 0 → ⊥) → measuresReactive (l .meters) ≡ true
+
+-- a line's test, by its three parts
+parts : (f t m : Bool) → (f || (t || m)) ≡ true → f ≡ false → t ≡ false → m ≡ true
+parts f t m e p q = cc
+
+parts-true : (f t m : Bool) → (f ≡ false → t ≡ false → m ≡ true) → (f || (t || m)) ≡ true
+parts-true true t m h = refl
+parts-true false true m h = refl
+parts-true false false m h = h refl refl
+
+metered : (l : Line) → measuredLine l ≡ true → Metered l
+metered l e f t = parts (eqb (l .from) 0) (eqb (l .to) 0) (measuresReactive (l .meters)) e (ne-eqb (l .from) 0 f) (ne-eqb (l .to) 0 t)
+
+line-test : (l : Line) → Metered l → measuredLine l ≡ true
+line-test l m =
+    parts-true (eqb (l .from) 0) (eqb (l .to) 0) (measuresReactive (l .meters))
+    (λ f t. m (λ e. true≢false (sym (eq-eqb (l .from) 0 e) ∙ f)) (λ e. true≢false (sym (eq-eqb (l .to) 0 e) ∙ t)))
+
+both-true : {a b : Bool} → a ≡ true → b ≡ true → (a && b) ≡ true
+both-true p q = cc
+
+measured-is : (lines : List Line) → allOf measuredLine lines ≡ true → Every Metered lines
+unfolding allOf
+measured-is [] e = tt
+measured-is (l ∷ lines) e =
+    let h = and-true (measuredLine l) (allOf measuredLine lines) e in
+    (metered l (h .0), measured-is lines (h .1))
+
+is-measured : (lines : List Line) → Every Metered lines → allOf measuredLine lines ≡ true
+unfolding allOf
+is-measured [] m = refl
+is-measured (l ∷ lines) m = both-true (line-test l (m .0)) (is-measured lines (m .1))
+
+equation : (y z : ℤ) → y ≡ z → equal y z ≡ true
+equation y z e = subst (λ (x : ℤ). equal y x ≡ true) e (equal-self y)
+
+uncut-is : (f : ℕ → ℕ) (n : ℕ) → eqb (overSites f n) 0 ≡ true → EachSite (λ (k : ℕ). f k ≡ 0) n
+uncut-is f n e = over-zero f n (eqb-true _ 0 e)
+
+is-uncut : (f : ℕ → ℕ) (n : ℕ) → EachSite (λ (k : ℕ). f k ≡ 0) n → eqb (overSites f n) 0 ≡ true
+is-uncut f n uncut = eq-eqb _ 0 (over-cong f (λ (k : ℕ). 0) n uncut ∙ over-none n)
 
 -- an entry that holds says what it means
 entry : (c : Case) → holds c ≡ true → Says c
 unfolding holds
-entry (wholeBill file numbers energy) e =
+entry (wholeBill file list settled network) e =
     let a = and-true _ _ e in
     let b = and-true _ _ (a .1) in
     let c = and-true _ _ (b .1) in
-    (accepts-is (refusal file) (a .0), (same-is _ numbers (b .0), (eqb-true _ energy (c .0), isPos-is _ energy (c .1))))
-entry (oneNumber file k j value) e = let a = and-true _ _ e in (accepts-is (refusal file) (a .0), eqb-true _ value (a .1))
+    (accepts-is (refusal file) (a .0), (same-is _ list (b .0), (eqb-true _ settled (c .0), equal-is _ (pos network) (c .1))))
 entry (tangentCase wq wp tg) e = eqb-true _ tg e
 entry (surchargeCase tg pc p2) e = eqb-true _ p2 e
 entry (chargeCase product pc) e = eqb-true _ pc e
 entry (reasonCase c g r) e = eqb-true _ r e
-entry (balanceCase file measured balanced cut) e =
+entry (balanceCase file measured balanced uncut) e =
     let a = and-true _ _ e in
     let b = and-true _ _ (a .1) in
-    let c = and-true _ _ (b .1) in
-    (accepts-is (refusal file) (a .0), (agree-is measured _ (b .0), (agree-is balanced _ (c .0), agree-is cut _ (c .1))))
+    let c = and-true _ _ (b .1) in (
+      accepts-is (refusal file) (a .0),
+      (
+        whether measured _ (measured-is (parkOf file .lines)) (is-measured (parkOf file .lines)) (b .0),
+        (
+          whether balanced _ (equal-is _ _) (equation _ _) (c .0),
+          whether uncut _ (uncut-is (λ (k : ℕ). numbers file k 4) _) (is-uncut (λ (k : ℕ). numbers file k 4) _) (c .1),
+        ),
+      ),
+    )
 
 entries : (cs : List Case) → allOf holds cs ≡ true → Every Says cs
 unfolding allOf
@@ -77,5 +137,5 @@ entries [] e = tt
 entries (c ∷ cs) e = let h = and-true (holds c) (allOf holds cs) e in (entry c (h .0), entries cs (h .1))
 
 -- 01's cases are so
-pub all-cases : Every Says cases
+pub all-cases : AllCases
 all-cases = entries cases all-hold

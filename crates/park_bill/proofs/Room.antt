@@ -27,6 +27,3 @@ lacking-le b e = rw e (lacking-bool b)
 pub when-bool : (b : Bool) (x : ℕ) → when b x ≤ x
 when-bool true x = omega arith
 when-bool false x = omega arith
-
-pub when-le : (b : Bool) (x : ℕ) {r n : ℕ} → r ≡ when b x → x ≤ n → r ≤ n
-when-le b x e h = omega (arith, when-bool b x)

@@ -54,18 +54,24 @@ pub record Balance (p : Park) (bills : ℕ → ℕ → ℕ) : Type 0 where
   pub balance : pos (added p bills 3) ≡ networkEnergy p +ℤ pos (added p bills 4)
   -- the two energies are equal if and only if no site is cut
   pub uncut : (pos (added p bills 3) ≡ networkEnergy p) ↔ AllZero p bills 4
-  -- if besides no site is cut and every site is payable, the charges are within half a kopeck a site of energy × T / 10,000,000
-  pub charges : AllZero p bills 4 → AllZero p bills 11 → (energy : ℕ) → pos energy ≡ networkEnergy p
-      → (2 * (10000000 * added p bills 6) ≤ 2 * (energy * p .header .price) + 10000000 * p .header .sites)
-      × (2 * (energy * p .header .price) ≤ 2 * (10000000 * added p bills 6) + 10000000 * p .header .sites)
+  -- if besides no site is cut and every site is payable, the charges are within half a kopeck a site of energy × T / 10,000,000,
+  -- where the energy is, by `uncut`, either of the two
+  pub charges : AllZero p bills 4 → AllZero p bills 11
+      → (2 * (10000000 * added p bills 6) ≤ 2 * (added p bills 3 * p .header .price) + 10000000 * p .header .sites)
+      × (2 * (added p bills 3 * p .header .price) ≤ 2 * (10000000 * added p bills 6) + 10000000 * p .header .sites)
 
--- for every list that is long enough, whatever it held
+-- for every list that is long enough, whatever it held (`park-balance` of Outcomes is its proof)
 abbrev pub InBalance : List ℕ → List ℕ → List ℕ → Type 0
-InBalance file before after = IsAccepted file → Measured (parkOf file) → 11 * parkOf file .header .sites ≤ length before → Balance (parkOf file) (inList after)
+InBalance file before after =
+    IsAccepted file → Measured (parkOf file) → 11 * parkOf file .header .sites ≤ length before → Balance (parkOf file) (inList after)
 
 abbrev pub ParkBalance : Type 0
 ParkBalance = (file before : List ℕ) → InBalance file before (listAfter file before)
 
--- and for the replies of bill_site
+-- and for the replies of bill_site (`site-balance`)
+abbrev pub RepliesInBalance : List ℕ → Type 0
+RepliesInBalance file =
+    IsAccepted file → Measured (parkOf file) → Balance (parkOf file) (λ (k j : ℕ). inReply (siteOutcome file k) j)
+
 abbrev pub SiteBalance : Type 0
-SiteBalance = (file : List ℕ) → IsAccepted file → Measured (parkOf file) → Balance (parkOf file) (λ (k j : ℕ). inReply (siteOutcome file k) j)
+SiteBalance = (file : List ℕ) → RepliesInBalance file

@@ -1,21 +1,23 @@
 -- Park Alder and the starred cases (01, "Park Alder, and its neighbours"), as entries of one list, and three parks that show what the
--- condition of the loss balance is for. `holds` says of each entry whether it is so; `Says` is what it then means.
+-- condition of the loss balance is for. `holds` says of each entry whether it is so; `Says` is what it then means. `all-cases` of
+-- CaseTest is the proof of `AllCases`.
 -- Assumes nothing.
-use Prim.Native.Nat.{ℕ, _+_, _/_, _%_}
+use Prim.Native.Nat.{ℕ, _/_, _%_}
 use mathlib.Core.Path.{_≡_}
-use mathlib.Core.Bool.{Bool, true, false, not, _&&_}
+use mathlib.Core.Bool.{Bool, true, false, not, _&&_, _||_}
 use mathlib.Core.List.{List, [], _∷_, _++_}
 use mathlib.Core.Option.{Option, none, some}
 use lib.Dec.{eqb}
-use lib.IntN.{ℤ, pos, negsuc}
+use lib.IntN.{ℤ, pos, negsuc, _+ℤ_}
 use Rattle.park_format.specs.Park.{parkOf}
 use Rattle.park_format.specs.Rules.{IsAccepted, measuresReactive, refusal}
+use Rattle.park_format.specs.Accepted.{Every}
 use Rattle.park_format.specs.declared.line.Line.{Line}
 use Rattle.park_charge.specs.Flow.{tangent}
 use Rattle.park_charge.specs.Charge.{lossCharge, reason, surcharge}
 use Rattle.park_bill.specs.Sums.{allOf}
-use Rattle.park_bill.specs.Reply.{billsOf, inList}
-use Rattle.park_bill.specs.Balance.{comingIn, goingBack, networkEnergy, overSites}
+use Rattle.park_bill.specs.Reply.{billsOf, inReply, siteOutcome}
+use Rattle.park_bill.specs.Balance.{added, AllZero, Measured, networkEnergy}
 
 -- a park file from its numbers, in file order
 abbrev pub two : ℕ → List ℕ
@@ -55,15 +57,16 @@ alderCut = alderWith (line 1 2 1 700 10000 40000 0 0)
 abbrev pub alderUnmetered : List ℕ
 alderUnmetered = alderWith (line 1 2 0 700 10000 0 0 0)
 
--- the settled losses and the cuts of a file's sites
-abbrev pub numberOver : List ℕ → ℕ → ℕ
-numberOver file j = overSites (λ (k : ℕ). inList (billsOf (parkOf file) (parkOf file .header .sites)) k j) (parkOf file .header .sites)
+-- number j of site k, as bill_site replies it, and that number added over the sites
+abbrev pub numbers : List ℕ → ℕ → ℕ → ℕ
+numbers file k j = inReply (siteOutcome file k) j
+
+abbrev pub total : List ℕ → ℕ → ℕ
+total file j = added (parkOf file) (numbers file) j
 
 pub data Case : Type 0 where
-  -- a file, the numbers of all its sites, and both energies of demand 3
-  wholeBill : List ℕ → List ℕ → ℕ → Case
-  -- a file, a site, one of its numbers, counted from 1, and its value
-  oneNumber : List ℕ → ℕ → ℕ → ℕ → Case
+  -- a file, the numbers of all its sites, the settled energy and the energy at the network
+  wholeBill : List ℕ → List ℕ → ℕ → ℕ → Case
   -- WQ0, WP0 and tg
   tangentCase : ℕ → ℕ → ℕ → Case
   -- tg, Pc and P2
@@ -72,17 +75,14 @@ pub data Case : Type 0 where
   chargeCase : ℕ → ℕ → Case
   -- consumption, generation and the reason, at a power of 16
   reasonCase : ℕ → ℕ → ℕ → Case
-  -- a file that is accepted; whether its lines between sites are all metered, whether the balance holds, and whether a site is cut
+  -- a file that is accepted; whether it meets the condition, whether settled losses are in balance, and whether no site is cut
   balanceCase : List ℕ → Bool → Bool → Bool → Case
 
--- 01's cases, and the three parks
+-- 01's cases (a WP0 of 0 with and without WQ0), and the three parks
 abbrev pub cases : List Case
 cases =
-    wholeBill alder (26000 ∷ 867 ∷ 17270000 ∷ 0 ∷ 100000 ∷ 863500 ∷ 334500 ∷ 328725 ∷ 0 ∷ 1526725 ∷ 0 ∷ 8000 ∷ 533 ∷ 5476000 ∷ 0 ∷ 0 ∷ 273800 ∷ 0 ∷ 21928 ∷ 27380 ∷ 268348 ∷ 0 ∷ []) 22746000
-    ∷ oneNumber alderCut 1 3 0
-    ∷ oneNumber alderCut 1 4 7930000
-    ∷ oneNumber alderCut 1 2 0
-    ∷ oneNumber alderCut 2 3 30676000
+    wholeBill alder (26000 ∷ 867 ∷ 17270000 ∷ 0 ∷ 100000 ∷ 863500 ∷ 334500 ∷ 328725 ∷ 0 ∷ 1526725 ∷ 0 ∷ 8000 ∷ 533 ∷ 5476000 ∷ 0 ∷ 0 ∷ 273800 ∷ 0 ∷ 21928 ∷ 27380 ∷ 268348 ∷ 0 ∷ []) 22746000 22746000
+    ∷ wholeBill alderCut (0 ∷ 0 ∷ 0 ∷ 7930000 ∷ 100000 ∷ 0 ∷ 334500 ∷ 0 ∷ 0 ∷ 334500 ∷ 0 ∷ 44000 ∷ 2000 ∷ 30676000 ∷ 0 ∷ 0 ∷ 1533800 ∷ 0 ∷ 4697263 ∷ 153380 ∷ 6077683 ∷ 0 ∷ []) 30676000 22746000
     ∷ tangentCase 1 2000 1
     ∷ tangentCase 0 0 800
     ∷ tangentCase 700 0 800
@@ -93,9 +93,9 @@ cases =
     ∷ chargeCase 5000000 1
     ∷ reasonCase 999 9999 2
     ∷ reasonCase 1000 0 0
-    ∷ balanceCase alder true true false
-    ∷ balanceCase alderCut true true true
-    ∷ balanceCase alderUnmetered false false false
+    ∷ balanceCase alder true true true
+    ∷ balanceCase alderCut true true false
+    ∷ balanceCase alderUnmetered false false true
     ∷ []
 
 abbrev pub same : List ℕ → List ℕ → Bool
@@ -108,47 +108,55 @@ abbrev pub accepts : Option (ℕ × ℕ) → Bool
 accepts none = true
 accepts (some r) = false
 
-abbrev pub isPos : ℤ → ℕ → Bool
-isPos (pos a) b = eqb a b
-isPos (negsuc a) b = false
+abbrev pub equal : ℤ → ℤ → Bool
+equal (pos a) (pos b) = eqb a b
+equal (pos a) (negsuc b) = false
+equal (negsuc a) (pos b) = false
+equal (negsuc a) (negsuc b) = eqb a b
 
 abbrev pub agree : Bool → Bool → Bool
 agree true b = b
 agree false b = not b
 
--- each line between two sites has a meter of reactive consumption
-abbrev pub measuredLines : List Line → Bool
-measuredLines lines = allOf (λ (l : Line). not (not (eqb (l .from) 0) && (not (eqb (l .to) 0) && not (measuresReactive (l .meters))))) lines
+-- a line between two sites has a meter of reactive consumption
+abbrev pub measuredLine : Line → Bool
+measuredLine l = eqb (l .from) 0 || (eqb (l .to) 0 || measuresReactive (l .meters))
 
 unfoldable pub holds : Case → Bool
-holds (wholeBill file numbers energy) =
+holds (wholeBill file list settled network) =
     accepts (refusal file)
-    && (same (billsOf (parkOf file) (parkOf file .header .sites)) numbers
-    && (eqb (numberOver file 3) energy && isPos (networkEnergy (parkOf file)) energy))
-holds (oneNumber file k j value) = accepts (refusal file) && eqb (inList (billsOf (parkOf file) (parkOf file .header .sites)) k j) value
+    && (same (billsOf (parkOf file) (parkOf file .header .sites)) list
+    && (eqb (total file 3) settled && equal (networkEnergy (parkOf file)) (pos network)))
 holds (tangentCase wq wp tg) = eqb (tangent wp wq) tg
 holds (surchargeCase tg pc p2) = eqb (surcharge pc tg) p2
 holds (chargeCase product pc) = eqb (lossCharge product 1) pc
 holds (reasonCase c g r) = eqb (reason 16 c g) r
-holds (balanceCase file measured balanced cut) =
+holds (balanceCase file measured balanced uncut) =
     accepts (refusal file)
-    && (agree measured (measuredLines (parkOf file .lines))
-    && (agree balanced (eqb (numberOver file 3 + goingBack (parkOf file)) (comingIn (parkOf file) + numberOver file 4))
-    && agree cut (not (eqb (numberOver file 4) 0))))
+    && (agree measured (allOf measuredLine (parkOf file .lines))
+    && (agree balanced (equal (pos (total file 3)) (networkEnergy (parkOf file) +ℤ pos (total file 4)))
+    && agree uncut (eqb (total file 4) 0)))
+
+-- that something is so, or that it is not
+abbrev pub Whether : Bool → Type 0 → Type 0
+Whether true A = A
+Whether false A = A → ⊥
 
 -- what an entry means
 abbrev pub Says : Case → Type 0
-Says (wholeBill file numbers energy) =
+Says (wholeBill file list settled network) =
     IsAccepted file
-    × ((billsOf (parkOf file) (parkOf file .header .sites) ≡ numbers)
-    × ((numberOver file 3 ≡ energy) × (networkEnergy (parkOf file) ≡ pos energy)))
-Says (oneNumber file k j value) = IsAccepted file × (inList (billsOf (parkOf file) (parkOf file .header .sites)) k j ≡ value)
+    × ((billsOf (parkOf file) (parkOf file .header .sites) ≡ list)
+    × ((total file 3 ≡ settled) × (networkEnergy (parkOf file) ≡ pos network)))
 Says (tangentCase wq wp tg) = tangent wp wq ≡ tg
 Says (surchargeCase tg pc p2) = surcharge pc tg ≡ p2
 Says (chargeCase product pc) = lossCharge product 1 ≡ pc
 Says (reasonCase c g r) = reason 16 c g ≡ r
-Says (balanceCase file measured balanced cut) =
+Says (balanceCase file measured balanced uncut) =
     IsAccepted file
-    × ((measuredLines (parkOf file .lines) ≡ measured)
-    × ((eqb (numberOver file 3 + goingBack (parkOf file)) (comingIn (parkOf file) + numberOver file 4) ≡ balanced)
-    × (not (eqb (numberOver file 4) 0) ≡ cut)))
+    × (Whether measured (Measured (parkOf file))
+    × (Whether balanced (pos (total file 3) ≡ networkEnergy (parkOf file) +ℤ pos (total file 4))
+    × Whether uncut (AllZero (parkOf file) (numbers file) 4)))
+
+abbrev pub AllCases : Type 0
+AllCases = Every Says cases

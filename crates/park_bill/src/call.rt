@@ -17,7 +17,7 @@ ghost use Rattle.park_format.specs.Park.{headerOf, parkOf};
 ghost use Rattle.park_format.specs.Rules.{IsAccepted};
 ghost use Rattle.park_bill.specs.Bill.{bill};
 ghost use Rattle.park_bill.specs.Walk.{IsSite};
-ghost use Rattle.park_bill.specs.Balance.{InBalance};
+ghost use Rattle.park_bill.specs.Balance.{InBalance, RepliesInBalance};
 ghost use Rattle.park_bill.specs.Reply.{billsOf, listAfter, parkAnswer, parkOutcome, siteAnswer, siteOutcome};
 
 pub enum SiteReply {
@@ -57,7 +57,8 @@ fn bill_at(
 
 // Bills one site, counted from 1. It takes any number for a site, and bytes of any number.
 pub fn bill_site(file: &[u8], site: u64) -> SiteReply
-    ensures { λ r. ⌜ siteAnswer r ≡ siteOutcome (now (file .entry)) site ⌝ }
+    ensures reply { λ r. ⌜ siteAnswer r ≡ siteOutcome (now (file .entry)) site ⌝ }
+    ensures balance { λ r. ⌜ RepliesInBalance (now (file .entry)) ⌝ }
 {
     if let Verdict::Refused(r) = park_format::check(file) {
         return SiteReply::Refused(r);

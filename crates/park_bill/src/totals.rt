@@ -2,6 +2,7 @@
 use crate::weighted;
 use park_format::line::Line;
 ghost use mathlib.Core.Path.{_≡_};
+ghost use Prim.Native.Nat.{_≤_};
 ghost use Rattle.park_bill.specs.Totals.{addFlow, addInput, addTransit, lacking, noFlow, noInputs, noTransits, startFlow, when, RoomForFlow, RoomForInput, RoomForTangent, RoomForTransit, SmallLine};
 ghost use Rattle.park_bill.specs.Bill.{flowIn};
 
@@ -49,7 +50,8 @@ pub struct Flow {
 
 // x if on, else 0.
 fn when(on: bool, x: u64) -> u64
-    ensures { λ r. ⌜ r ≡ when on x ⌝ }
+    ensures equal { λ r. ⌜ r ≡ when on x ⌝ }
+    ensures small { λ r. ⌜ r ≤ x ⌝ }
 {
     if on { x } else { 0 }
 }

@@ -38,9 +38,9 @@ pub extern "C" fn park_bill_site(
     ensures place { λ r. ⌜ now (place .exit) ≡ placeOf (siteOutcome (now (file .entry)) site) ⌝ }
 {
     match park_bill::bill_site(file, site) {
-        SiteReply::Refused(r) => {
-            *place = r.place as u64;
-            r.number as u64
+        SiteReply::Refused(refusal) => {
+            *place = refusal.place as u64;
+            refusal.number as u64
         }
         SiteReply::Billed(b) => {
             b.write(bill);
@@ -64,10 +64,10 @@ pub extern "C" fn park_bill_park(
     ensures sites { λ r. ⌜ now (sites .exit) ≡ sitesOf (parkOutcome (now (file .entry)) (now (list .entry))) ⌝ }
 {
     match park_bill::bill_park(file, list) {
-        ParkReply::Refused(r) => {
-            *place = r.place as u64;
+        ParkReply::Refused(refused) => {
+            *place = refused.place as u64;
             *sites = 0;
-            r.number as u64
+            refused.number as u64
         }
         ParkReply::Billed(count) => {
             *place = 0;

@@ -3,6 +3,7 @@ use libc::STDIN_FILENO;
 use libc::STDOUT_FILENO;
 use park_bill::call::ParkReply;
 use park_format::rule::Refusal;
+ghost use Rattle.io.specs.Counts.{Counts};
 
 // The longest accepted file has 1,534 bytes. A longer one is refused for its length, since there is room for more.
 const ROOM: usize = 2048;
@@ -48,11 +49,43 @@ fn print_bill(sites: u64, list: &[u64]) {
     }
 }
 
+struct Input {
+    size: usize,
+    failed: bool,
+}
+
+// Reads standard input until it ends, buf is full or a read fails; size bytes then stand at the start of buf.
+fn read_input(buf: &mut [u8]) -> Input
+    ensures { λ r. ⌜ Counts (r .«size») (now (buf .exit)) ⌝ }
+{
+    let most = buf.len();
+    let mut size = 0;
+    while size < most {
+        let got = libc::read(STDIN_FILENO, &mut buf[size..most]);
+        let more = io::count(got, &buf[size..most]);
+        if more == 0 {
+            return Input {
+                size,
+                failed: got < 0,
+            };
+        }
+        size += more;
+    }
+    Input {
+        size,
+        failed: false,
+    }
+}
+
 fn main() {
     let mut buffer = [0u8; ROOM];
     let mut list = [0u64; NUMBERS];
-    let n = io::read_full(STDIN_FILENO, &mut buffer);
-    let reply = park_bill::bill_park(&buffer[..n], &mut list);
+    let input = read_input(&mut buffer);
+    if input.failed {
+        os::fail(b"parkbill: standard input");
+        return;
+    }
+    let reply = park_bill::bill_park(&buffer[..input.size], &mut list);
     let ParkReply::Billed(sites) = reply else {
         let ParkReply::Refused(r) = reply else {
             return;

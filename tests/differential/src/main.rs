@@ -8,8 +8,7 @@
 //!
 //! Settings from the environment: PARK_SEED and PARK_FILES (the generated files), PARK_SAMPLE (how
 //! many of them are printed too), PARKBILL (the program, by default ../../target/bin/parkbill seen
-//! from this package) and, when building, PARK_LIB_DIR (the library's folder, by default
-//! ../../target/staticlib). Exit code: 0 if all agree and every branch was reached, else 1.
+//! from this package). Exit code: 0 if all agree and every branch was reached, else 1.
 
 mod balance;
 mod branches;
@@ -81,12 +80,6 @@ fn in_package(path: &str) -> PathBuf {
     Path::new(env!("CARGO_MANIFEST_DIR")).join(path)
 }
 
-#[cfg(feature = "mock")]
-fn product() -> impl Product {
-    mock::Mock(None)
-}
-
-#[cfg(not(feature = "mock"))]
 fn product() -> impl Product {
     let named = env::var_os("PARKBILL").map(PathBuf::from);
     let program = named.unwrap_or_else(|| in_package("../../target/bin/parkbill"));

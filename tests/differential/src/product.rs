@@ -3,7 +3,11 @@
 //! Every place that a call should write holds `UNWRITTEN` before it, so that a place it leaves
 //! alone is seen.
 
-use std::io;
+use std::io::{self, Write};
+use std::path::{Path, PathBuf};
+use std::process::{Command, Stdio};
+
+use park::c;
 
 use crate::steps::Bill;
 
@@ -30,95 +34,61 @@ pub trait Product {
     fn printed(&self, file: &[u8]) -> io::Result<Vec<u8>>;
 }
 
-#[cfg(not(feature = "mock"))]
-pub use linked::Linked;
+/// The static library, and the program at a path.
+pub struct Linked {
+    pub program: PathBuf,
+}
 
-/// The linked library.
-#[cfg(not(feature = "mock"))]
-mod linked {
-    use std::io::{self, Write};
-    use std::path::{Path, PathBuf};
-    use std::process::{Command, Stdio};
-
-    use super::{Bill, Product, Reply, UNWRITTEN};
-
-    extern "C" {
-        fn park_check(file_ptr: *const u8, file_len: usize, place: *mut u64) -> u64;
-
-        fn park_bill_site(
-            file_ptr: *const u8,
-            file_len: usize,
-            bill: *mut [u64; 11],
-            site: u64,
-            place: *mut u64,
-        ) -> u64;
-
-        fn park_bill_park(
-            file_ptr: *const u8,
-            file_len: usize,
-            list_ptr: *mut u64,
-            list_len: usize,
-            place: *mut u64,
-            sites: *mut u64,
-        ) -> u64;
+impl Product for Linked {
+    fn check(&self, file: &[u8]) -> Reply {
+        let mut place = UNWRITTEN;
+        // SAFETY: the pointers are to live values, and the length is the slice's own.
+        let number = unsafe { c::park_check(file.as_ptr(), file.len(), &mut place) };
+        Reply { number, place }
     }
 
-    /// The static library, and the program at a path.
-    pub struct Linked {
-        pub program: PathBuf,
+    fn bill_site(&self, file: &[u8], bill: &mut Bill, site: u64) -> Reply {
+        let mut place = UNWRITTEN;
+        // SAFETY: as in `check`; the bill is eleven numbers.
+        let number =
+            unsafe { c::park_bill_site(file.as_ptr(), file.len(), bill, site, &mut place) };
+        Reply { number, place }
     }
 
-    impl Product for Linked {
-        fn check(&self, file: &[u8]) -> Reply {
-            let mut place = UNWRITTEN;
-            // SAFETY: the pointers are to live values, and the length is the slice's own.
-            let number = unsafe { park_check(file.as_ptr(), file.len(), &mut place) };
-            Reply { number, place }
-        }
-
-        fn bill_site(&self, file: &[u8], bill: &mut Bill, site: u64) -> Reply {
-            let mut place = UNWRITTEN;
-            // SAFETY: as in `check`; the bill is eleven numbers.
-            let number =
-                unsafe { park_bill_site(file.as_ptr(), file.len(), bill, site, &mut place) };
-            Reply { number, place }
-        }
-
-        fn bill_park(&self, file: &[u8], list: &mut [u64]) -> (Reply, u64) {
-            let (mut place, mut sites) = (UNWRITTEN, UNWRITTEN);
-            let (list_ptr, list_len) = (list.as_mut_ptr(), list.len());
-            // SAFETY: as in `check`; the list's length is the slice's own.
-            let number = unsafe {
-                let file_ptr = file.as_ptr();
-                park_bill_park(file_ptr, file.len(), list_ptr, list_len, &mut place, &mut sites)
-            };
-            (Reply { number, place }, sites)
-        }
-
-        fn printed(&self, file: &[u8]) -> io::Result<Vec<u8>> {
-            run_program(&self.program, file)
-        }
+    fn bill_park(&self, file: &[u8], list: &mut [u64]) -> (Reply, u64) {
+        let (mut place, mut sites) = (UNWRITTEN, UNWRITTEN);
+        let (list_ptr, list_len) = (list.as_mut_ptr(), list.len());
+        // SAFETY: as in `check`; the list's length is the slice's own.
+        let number = unsafe {
+            let file_ptr = file.as_ptr();
+            c::park_bill_park(file_ptr, file.len(), list_ptr, list_len, &mut place, &mut sites)
+        };
+        (Reply { number, place }, sites)
     }
 
-    /// Runs a program on a file; a program ended by a signal is an error, its exit code is not looked
-    /// at, and one that stops reading early is let be.
-    fn run_program(path: &Path, file: &[u8]) -> io::Result<Vec<u8>> {
-        let mut child = Command::new(path)
-            .stdin(Stdio::piped())
-            .stdout(Stdio::piped())
-            .stderr(Stdio::null())
-            .spawn()?;
-        let mut input = child.stdin.take().expect("the input is piped");
-        let written = input.write_all(file);
-        drop(input);
-        let output = child.wait_with_output()?;
-        match written {
-            Err(error) if error.kind() != io::ErrorKind::BrokenPipe => return Err(error),
-            _ => {}
-        }
-        if output.status.code().is_none() {
-            return Err(io::Error::other(format!("ended by {}", output.status)));
-        }
-        Ok(output.stdout)
+    fn printed(&self, file: &[u8]) -> io::Result<Vec<u8>> {
+        run_program(&self.program, file)
     }
+}
+
+/// Runs a program on a file; a program ended by a signal is an error, its exit code is not looked
+/// at, and one that stops reading early is let be.
+fn run_program(path: &Path, file: &[u8]) -> io::Result<Vec<u8>> {
+    let mut child = Command::new(path)
+        .stdin(Stdio::piped())
+        .stdout(Stdio::piped())
+        .stderr(Stdio::null())
+        .spawn()?;
+    let mut input = child.stdin.take().expect("the input is piped");
+    let written = input.write_all(file);
+    drop(input);
+    let output = child.wait_with_output()?;
+    match written {
+        Err(error) if error.kind() != io::ErrorKind::BrokenPipe => return Err(error),
+        _ => {}
+    }
+    if output.status.code().is_none() {
+        return Err(io::Error::other(format!("ended by {}", output.status)));
+    }
+    Ok(output.stdout)
 }

@@ -8,8 +8,8 @@ use Rattle.park_c.proofs.park_bill_park.Tie as tie
 bill-park-requires : tie.Need-bill-park-requires
 bill-park-requires c κs = search needs
 
-enum-known-r : tie.Need-enum-known-r
-enum-known-r c = search needs
+enum-known-refused : tie.Need-enum-known-refused
+enum-known-refused c = search needs
 
 cast-place : tie.Need-cast-place
 cast-place c = search needs
@@ -25,7 +25,7 @@ same-length c = search needs
 
 returns : tie.Need-returns
 returns c =
-    let e = sym (ap parkAnswer (c .before .before .before .r .given .1)) ∙ c .before .before .before .before .before .before .before .bill-park .ensures .0 in
+    let e = sym (ap parkAnswer (c .before .before .before .refused .given .1)) ∙ c .before .before .before .before .before .before .before .bill-park .ensures .0 in
     (ap numberOf e, (c .before .before .before .before .before .before .before .bill-park .ensures .1 .0, (ap placeOf e, ap sitesOf e)))
 
 same-length-2 : tie.Need-same-length-2
@@ -41,7 +41,7 @@ park-bill-park-spec =
     tie.close
     (tie.spec
     bill-park-requires
-    enum-known-r
+    enum-known-refused
     cast-place
     cast-result
     enum-known-count

@@ -12,8 +12,8 @@ use Rattle.park_c.proofs.park_bill_site.Tie as tie
 bill-site-requires : tie.Need-bill-site-requires
 bill-site-requires c κs = search needs
 
-enum-known-r : tie.Need-enum-known-r
-enum-known-r c = search needs
+enum-known-refusal : tie.Need-enum-known-refusal
+enum-known-refusal c = search needs
 
 cast-place : tie.Need-cast-place
 cast-place c = search needs
@@ -29,12 +29,12 @@ write-requires c κs = search needs
 
 returns : tie.Need-returns
 returns c =
-    let e = sym (ap siteAnswer (c .before .before .before .r .given .1)) ∙ c .before .before .before .before .before .bill-site .ensures in
+    let e = sym (ap siteAnswer (c .before .before .before .refusal .given .1)) ∙ c .before .before .before .before .before .bill-site .ensures .0 in
     (ap numberOf e, (ap (λ (o : (ℕ × ℕ) ⊎ Bill). numbersAfter o (now (c .before .before .before .before .before .before .before .args .bill))) e, ap placeOf e))
 
 returns-2 : tie.Need-returns-2
 returns-2 c =
-    let e = sym (ap siteAnswer (c .before .before .before .b .given .1)) ∙ c .before .before .before .before .before .bill-site .ensures in
+    let e = sym (ap siteAnswer (c .before .before .before .b .given .1)) ∙ c .before .before .before .before .before .bill-site .ensures .0 in
     (ap numberOf e, (c .write .ensures ∙ ap (λ (o : (ℕ × ℕ) ⊎ Bill). numbersAfter o (now (c .before .before .before .before .before .before .before .args .bill))) e, ap placeOf e))
 
 pub park-bill-site-spec : {M : Type 1} → statement M
@@ -42,7 +42,7 @@ park-bill-site-spec =
     tie.close
     (tie.spec
     bill-site-requires
-    enum-known-r
+    enum-known-refusal
     cast-place
     cast-result
     enum-known-b

@@ -39,7 +39,8 @@ cast-bill-of-2 : tie.Need-cast-bill-of-2
 cast-bill-of-2 c = search needs
 
 bill-of-requires : tie.Need-bill-of-requires
-bill-of-requires c κs = room-of (now (c .before .before .before .before .args .file)) (c .before .before .before .before .pre .0 .0) (c .before .before .before .before .args .header) (c .before .before .before .before .pre .0 .1) (c .before .before .before .before .args .k) (c .before .before .before .before .args .input) (c .before .before .before .before .args .transit) (c .before .before .before .before .args .flow) (c .before .before .before .before .pre .1) (c .before .before .read .result) (c .before .before .read .ensures)
+unfolding parkOf
+bill-of-requires c κs = room-of (now (c .before .before .before .before .args .file)) (c .before .before .before .before .pre .0 .0) (c .before .before .before .before .args .header) (c .before .before .before .before .pre .0 .1) (c .before .before .before .before .args .k) (c .before .before .before .before .args .input) (c .before .before .before .before .args .transit) (c .before .before .before .before .args .flow) (c .before .before .before .before .pre .1) (c .before .before .read .result) _ (c .before .before .read .ensures) (omega (arith, c .before .before .before .before .pre .1 .low, c .before .before .before .before .pre .1 .high))
 
 returns : tie.Need-returns
 returns c = c .bill-of .ensures ∙ bill-is (now (c .before .before .before .before .before .args .file)) (c .before .before .before .before .before .pre .0 .0) (c .before .before .before .before .before .args .header) (c .before .before .before .before .before .pre .0 .1) (c .before .before .before .before .before .args .k) (c .before .before .before .before .before .args .input) (c .before .before .before .before .before .args .transit) (c .before .before .before .before .before .args .flow) (c .before .before .before .before .before .pre .1) (c .before .before .before .read .result) (c .before .before .before .read .ensures)

@@ -72,13 +72,13 @@ mul-if1 c = search needs
 returns-2 : tie.Need-returns-2
 returns-2 c =
     let s = c .before .before .before .before .before .before .before .before .args in
-    let short = subst (λ (n : ℕ). length (now (s .list)) < 11 * n) (sites-are (c .before .before)) (c .if1 .taken) in
+    let short : length (now (s .list)) < 11 * parkOf (now (s .file)) .header .sites = omega (arith, sites-are (c .before .before)) in
     let e = call-refuses (now (s .file)) 21 0 _ (accepted (c .before .before)) (lt-ltb _ _ short) in
     let list = sym (ap (left (now (s .file)) (now (s .list))) e) in
     (sym (ap (outcome (now (s .file))) e), (list, in-balance (now (s .file)) (now (s .list)) list))
 
 fill-requires : tie.Need-fill-requires
-fill-requires c κs = ((accepted (c .before .before .before), c .before .before .before .read .ensures), c .before .if1 .left)
+fill-requires c κs = ((accepted (c .before .before .before), c .before .before .before .read .ensures), omega (arith, c .before .if1 .left))
 
 cast-t14 : tie.Need-cast-t14
 cast-t14 c = search needs
@@ -90,7 +90,7 @@ returns-3 : tie.Need-returns-3
 returns-3 c =
     let s = c .before .before .before .before .before .before .before .before .before .before .before .before .before .args in
     let same = sites-are (c .before .before .before .before .before .before .before) in
-    let long = subst (λ (n : ℕ). 11 * n ≤ length (now (s .list))) same (c .before .before .before .before .before .if1 .left) in
+    let long : 11 * parkOf (now (s .file)) .header .sites ≤ length (now (s .list)) = omega (arith, same, c .before .before .before .before .before .if1 .left) in
     let e = call-allows (now (s .file)) 21 0 _ (accepted (c .before .before .before .before .before .before .before)) (le-ltb _ _ long) in
     let list =
     c .before .before .before .fill .ensures

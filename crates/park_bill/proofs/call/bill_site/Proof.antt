@@ -14,6 +14,7 @@ use Rattle.park_format.proofs.Tests.{or-yes, or-next, or-no}
 use Rattle.park_bill.specs.Bill.{bill}
 use Rattle.park_bill.specs.Reply.{answer}
 use Rattle.park_bill.specs.declared.bill.Bill.{Bill}
+use Rattle.park_bill.proofs.Outcomes.{site-balance}
 use Rattle.park_bill.proofs.Parks.{header-kept}
 use Rattle.park_bill.proofs.Refusals.{file-first, call-refuses, call-allows}
 use Rattle.park_bill.proofs.Sites.{tangents-room, fresh, walked-site}
@@ -58,8 +59,10 @@ enum-known-r c = search needs
 
 returns : tie.Need-returns
 returns c =
-    let s = c .before .before .before .before .before .args in
-    sym (ap (outcome (now (s .file)) (s .site)) (file-first (now (s .file)) _ (sym (ap refusalOf (c .before .r .given .1)) ∙ c .before .before .before .check .ensures)))
+    let s = c .before .before .before .before .before .args in (
+      sym (ap (outcome (now (s .file)) (s .site)) (file-first (now (s .file)) _ (sym (ap refusalOf (c .before .r .given .1)) ∙ c .before .before .before .check .ensures))),
+      site-balance (now (s .file)),
+    )
 
 enum-told : tie.Need-enum-told
 enum-told c = search needs
@@ -71,16 +74,20 @@ read-requires c κs =
 
 returns-2 : tie.Need-returns-2
 returns-2 c =
-    let s = c .before .before .before .before .before .before .args in
-    sym (ap (outcome (now (s .file)) (s .site)) (call-refuses (now (s .file)) 20 0 _ (accepted (c .before)) (no-site _ (s .site) (c .if1 .taken))))
+    let s = c .before .before .before .before .before .before .args in (
+      sym (ap (outcome (now (s .file)) (s .site)) (call-refuses (now (s .file)) 20 0 _ (accepted (c .before)) (no-site _ (s .site) (c .if1 .taken)))),
+      site-balance (now (s .file)),
+    )
 
 cast-if2 : tie.Need-cast-if2
 cast-if2 c = search needs
 
 returns-3 : tie.Need-returns-3
 returns-3 c =
-    let s = c .before .before .before .before .before .before .before .before .args in
-    sym (ap (outcome (now (s .file)) (s .site)) (call-refuses (now (s .file)) 20 0 _ (accepted (c .before .before .before)) (beyond _ (s .site) (c .before .before .if1 .left) (subst (λ (n : ℕ). n < s .site) (sites-are (c .before .before .before)) (c .if2 .taken)))))
+    let s = c .before .before .before .before .before .before .before .before .args in (
+      sym (ap (outcome (now (s .file)) (s .site)) (call-refuses (now (s .file)) 20 0 _ (accepted (c .before .before .before)) (beyond _ (s .site) (c .before .before .if1 .left) (subst (λ (n : ℕ). n < s .site) (sites-are (c .before .before .before)) (c .if2 .taken))))),
+      site-balance (now (s .file)),
+    )
 
 add-up-requires : tie.Need-add-up-requires
 add-up-requires c κs = (accepted (c .before .before .before), c .before .before .before .read .ensures)
@@ -121,9 +128,11 @@ bill-at-requires c κs = (
 
 returns-4 : tie.Need-returns-4
 returns-4 c =
-    let s = c .before .before .before .before .before .before .before .before .before .before .before .before .before .before .before .args in
-    ap inr (c .bill-at .ensures)
-    ∙ sym (ap (outcome (now (s .file)) (s .site)) (call-allows (now (s .file)) 20 0 _ (accepted (c .before .before .before .before .before .before .before .before .before .before)) (is-site _ (s .site) (c .before .before .before .before .before .before .before .before .before .if1 .left) (subst (λ (n : ℕ). s .site ≤ n) (sites-are (c .before .before .before .before .before .before .before .before .before .before)) (c .before .before .before .before .before .before .before .if2 .left)))))
+    let s = c .before .before .before .before .before .before .before .before .before .before .before .before .before .before .before .args in (
+      ap inr (c .bill-at .ensures)
+          ∙ sym (ap (outcome (now (s .file)) (s .site)) (call-allows (now (s .file)) 20 0 _ (accepted (c .before .before .before .before .before .before .before .before .before .before)) (is-site _ (s .site) (c .before .before .before .before .before .before .before .before .before .if1 .left) (subst (λ (n : ℕ). s .site ≤ n) (sites-are (c .before .before .before .before .before .before .before .before .before .before)) (c .before .before .before .before .before .before .before .if2 .left))))),
+      site-balance (now (s .file)),
+    )
 
 pub bill-site-spec : {M : Type 1} → statement M
 bill-site-spec =

@@ -5,7 +5,8 @@ use mathlib.Core.Path.{_≡_, refl, sym, ap, subst, _∙_}
 use mathlib.Core.List.{List, _++_}
 use borrow.Author.Needs.{needs}
 use denote.Ref.{now}
-use lib.ListN.{length, drop}
+use borrow.Rule.Slice.PartMut.{same-len-mid}
+use lib.ListN.{length, drop, length-take, length-drop}
 use Rattle.park_format.specs.Park.{headerOf, parkOf}
 use Rattle.park_format.specs.Rules.{IsAccepted}
 use Rattle.park_format.specs.declared.header.Header.{Header}
@@ -13,7 +14,7 @@ use Rattle.park_bill.specs.Bill.{words}
 use Rattle.park_bill.specs.Reply.{billsOf}
 use Rattle.park_bill.proofs.Parks.{header-kept}
 use Rattle.park_bill.proofs.Sites.{tangents-room, fresh, walked-site}
-use Rattle.park_bill.proofs.Slices.{length-part, length-written, next-slice, no-slice}
+use Rattle.park_bill.proofs.Slices.{next-slice, no-slice}
 use Rattle.park_bill.proofs.call.fill.Statement.{statement}
 use Rattle.park_bill.proofs.call.fill.Tie as tie
 
@@ -30,8 +31,8 @@ abbrev μ-loop : tie.MeasureT-loop
 sixteen : (file : List ℕ) (h : Header) → IsAccepted file → h ≡ headerOf file → h .sites ≤ 16
 sixteen file h accepted read = subst (λ (x : Header). x .sites ≤ 16) (sym read) (header-kept file accepted .sites .1)
 
-wide : (k : ℕ) → 11 * k + 11 - 11 * k ≡ 11
-wide k = omega arith
+wide : (at : ℕ) → at + 11 - at ≡ 11
+wide at = omega arith
 
 few : (s : tie.Start Inv-loop μ-loop) → s .args .header .sites ≤ 16
 few s = sixteen (now (s .args .file)) (s .args .header) (s .pre .0 .0) (s .pre .0 .1)
@@ -101,7 +102,7 @@ part-write-end c = omega (arith, c .before .before .before .before .loop-test .t
 write-requires : tie.Need-write-requires Inv-loop μ-loop
 write-requires c κs =
     let l = c .before .before .before .before .before .before .loop in
-    length-part (11 * l .k) _ (l .list) (omega (arith, c .before .before .before .before .before .loop-test .taken, l .inv, c .before .before .before .before .before .before .before .before .before .before .before .before .before .pre .1)) ∙ wide (l .k)
+    simp (length-take, length-drop) (omega (arith, c .before .before .before .before .before .loop-test .taken, l .inv, c .before .before .before .before .before .before .before .before .before .before .before .before .before .pre .1))
 
 add-k : tie.Need-add-k Inv-loop μ-loop
 add-k c = omega (arith, c .before .before .before .before .before .before .before .before .loop-test .taken, c .before .before .before .before .before .before .before .before .before .loop .inv, few (c .before .before .before .before .before .before .before .before .before .before .before .before .before .before .before .before))
@@ -113,14 +114,13 @@ loop-again : tie.Need-loop-again Inv-loop μ-loop
 loop-again c =
     let l = c .before .before .before .before .before .before .before .before .before .loop in
     let s = c .before .before .before .before .before .before .before .before .before .before .before .before .before .before .before .before in
-    let part = c .before .before .write .last .1 .0 in
-    let new = c .before .before .write .ensures ∙ ap words (c .before .before .before .before .bill-at .ensures) in (
+    let part = c .before .before .write .last .1 .0 in (
       omega (arith, c .before .before .before .before .before .before .before .before .loop-test .taken, l .inv),
       (
         l .inv .1 .0,
         (
-          length-written (11 * l .k) _ (l .list) (omega (arith, c .before .before .before .before .before .before .before .before .loop-test .taken, l .inv, s .pre .1)) part (ap length new ∙ sym (wide (l .k))) ∙ l .inv .1 .1 .0,
-          next-slice (parkOf (now (s .args .file))) (l .k) _ (l .list) (now (s .args .list)) part (wide (l .k)) (l .inv .1 .1 .1) new,
+          same-len-mid (11 * l .k) (11 * l .k + 11 - 11 * l .k) (l .list) part (c .before .before .write .kept .1 .0) ∙ l .inv .1 .1 .0,
+          next-slice (parkOf (now (s .args .file))) (l .k) _ (l .list) (now (s .args .list)) part (wide (11 * l .k)) (l .inv .1 .1 .1) (c .before .before .write .ensures ∙ ap words (c .before .before .before .before .bill-at .ensures)),
         ),
       ),
     )

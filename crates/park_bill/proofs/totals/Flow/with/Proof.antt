@@ -28,19 +28,19 @@ outflow-requires : tie.Need-outflow-requires
 outflow-requires c κs = search needs
 
 add-t7 : tie.Need-add-t7
-add-t7 c = omega (arith, c .before .before .before .before .before .pre .reactive, out-le (c .before .before .before .before .before .args .line) (c .before .before .before .before .before .pre .small) (c .before .before .before .before .before .args .self .tangent) (c .before .before .measures-reactive .result) (c .before .outflow .ensures))
+add-t7 c = omega (arith, c .before .before .before .before .before .pre .reactive, out-le (c .before .before .before .before .before .args .line) (c .before .before .before .before .before .pre .small) _ _ (c .before .outflow .ensures))
 
 cast-lost : tie.Need-cast-lost
 cast-lost c = search needs
 
 mul-lost : tie.Need-mul-lost
-mul-lost c = product-fits 10000000 5000 (out-le (c .before .before .before .before .before .before .args .line) (c .before .before .before .before .before .before .pre .small) (c .before .before .before .before .before .before .args .self .tangent) (c .before .before .before .measures-reactive .result) (c .before .before .outflow .ensures)) (c .before .before .before .before .before .before .pre .small .eerp) tt
+mul-lost c = product-fits 10000000 5000 (out-le (c .before .before .before .before .before .before .args .line) (c .before .before .before .before .before .before .pre .small) _ _ (c .before .before .outflow .ensures)) (c .before .before .before .before .before .before .pre .small .eerp) tt
 
 lost-requires : tie.Need-lost-requires
 lost-requires c κs =
     let s = c .before .before .before .before .before .before .before in (
       rw (read-whole (s .args .self .losses) (near-fits (s .args .self .losses) (s .pre .losses))) (s .pre .losses),
-      mul-le-mul (out-le (c .before .before .before .before .before .before .before .args .line) (c .before .before .before .before .before .before .before .pre .small) (c .before .before .before .before .before .before .before .args .self .tangent) (c .before .before .before .before .measures-reactive .result) (c .before .before .before .outflow .ensures)) (s .pre .small .eerp),
+      mul-le-mul (out-le (c .before .before .before .before .before .before .before .args .line) (c .before .before .before .before .before .before .before .pre .small) _ _ (c .before .before .before .outflow .ensures)) (s .pre .small .eerp),
     )
 
 flow-is : (c : tie.After-lost) → c .before .before .before .before .outflow .result ≡ flowOut (c .before .before .before .before .before .before .before .before .args .self .tangent) (c .before .before .before .before .before .before .before .before .args .line)
@@ -55,7 +55,7 @@ losses-are c =
     let loss =
     c .lost .ensures
     ∙ ap (λ (z : ℤ). z -ℤ pos (c .before .before .before .before .outflow .result * eerp)) (read-whole (s .args .self .losses) (near-fits (s .args .self .losses) (s .pre .losses))) in
-    read-whole _ (subst (SFits w64) (sym loss) (lost-fits (s .args .self .losses) _ (s .pre .losses) (mul-le-mul (out-le (c .before .before .before .before .before .before .before .before .args .line) (c .before .before .before .before .before .before .before .before .pre .small) (c .before .before .before .before .before .before .before .before .args .self .tangent) (c .before .before .before .before .before .measures-reactive .result) (c .before .before .before .before .outflow .ensures)) (s .pre .small .eerp))))
+    read-whole _ (subst (SFits w64) (sym loss) (lost-fits (s .args .self .losses) _ (s .pre .losses) (mul-le-mul (out-le (c .before .before .before .before .before .before .before .before .args .line) (c .before .before .before .before .before .before .before .before .pre .small) _ _ (c .before .before .before .before .outflow .ensures)) (s .pre .small .eerp))))
     ∙ loss
     ∙ ap (λ (f : ℕ). s .args .self .losses -ℤ pos (f * eerp)) (flow-is c)
 

@@ -1,4 +1,4 @@
-//! Links the product's static library libpark_c.a; links nothing under the feature `mock`.
+//! Links the static library libpark_c.a, which `rt staticlib park_c` makes.
 //! PARK_LIB_DIR names another folder to look in (a relative one counts from this package).
 
 use std::env;
@@ -6,9 +6,6 @@ use std::path::PathBuf;
 
 fn main() {
     println!("cargo:rerun-if-env-changed=PARK_LIB_DIR");
-    if env::var_os("CARGO_FEATURE_MOCK").is_some() {
-        return;
-    }
     let package = PathBuf::from(env::var_os("CARGO_MANIFEST_DIR").expect("cargo sets the folder"));
     let folder = match env::var_os("PARK_LIB_DIR") {
         Some(folder) => package.join(folder),
