@@ -117,8 +117,26 @@ flows-more f k lines l = chosen-snoc (flowAfter f) addFlow (flow-snoc f) (λ (x 
 difference-le : (a b : ℕ) {most : ℕ} → a ≤ most → b ≤ most → natAbs (pos a -ℤ pos b) ≤ most
 difference-le a b h l = omega (arith, size-is (pos a -ℤ pos b), settled-is a b, cut-is a b)
 
+-- a reading that is 0 without its meter
+when-metered : (on : Bool) {x : ℕ} → (on ≡ false → x ≡ 0) → when on x ≡ x
+when-metered true h = refl
+when-metered false h = sym (h refl)
+
+nothing : {whole part : ℕ} → whole ≡ 0 → part ≤ whole → part ≡ 0
+nothing e h = omega arith
+
 pub kept-small : (s : ℕ) (l : Line) → KeptLine s l → SmallLine l
-kept-small s l h = record { active = h .active; reactive = h .reactive; eerp = h .eerp .1; generated = h .generated; night = h .night }
+kept-small s l h =
+    record {
+      active = h .active;
+      reactive = h .reactive;
+      eerp = h .eerp .1;
+      generated = h .generated;
+      night = h .night;
+      meteredReactive = when-metered _ (h .unmeteredReactive);
+      meteredGenerated = when-metered _ (h .unmeteredGenerated);
+      meteredNight = when-metered _ (λ e. nothing (h .unmeteredGenerated e) (h .nightWithin));
+    }
 
 module _ (s : ℕ) (lines : List Line) (kept : Every (KeptLine s) lines) (few : length lines ≤ 64) (k : ℕ) where
   small : (f : Line → ℕ) (most : ℕ) → ((l : Line) → KeptLine s l → f l ≤ most) → (test : Line → Bool) → sumBy f (select test lines) ≤ most * 64

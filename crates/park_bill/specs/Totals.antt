@@ -1,6 +1,7 @@
 -- Inner: what the walk over the lines adds up for a site: the sums over its inputs and over its transits, and one line more.
 -- Assumes nothing.
 use Prim.Native.Nat.{ℕ, _+_, _*_, _≤_}
+use mathlib.Core.Path.{_≡_}
 use mathlib.Core.Bool.{Bool, cond}
 use mathlib.Core.List.{List}
 use lib.IntN.{pos, _+ℤ_, _-ℤ_, natAbs}
@@ -150,6 +151,10 @@ pub record SmallLine (l : Line) : Type 0 where
   pub eerp : l .eerp ≤ 5000
   pub generated : l .generated ≤ 10000000
   pub night : l .night ≤ 10000000
+  -- a reading without its meter is 0, so that the meter need not be asked for
+  pub meteredReactive : when (measuresReactive (l .meters)) (l .reactive) ≡ l .reactive
+  pub meteredGenerated : when (generates l) (l .generated) ≡ l .generated
+  pub meteredNight : when (generates l) (l .night) ≡ l .night
 
 -- sums that have room for one line more
 pub record RoomForInput (t : Inputs) (l : Line) : Type 0 where

@@ -11,14 +11,14 @@ use park_format::rule::Verdict;
 use park_format::site::Site;
 ghost use mathlib.Core.Path.{_≡_};
 ghost use mathlib.Core.List.{_++_};
-ghost use Prim.Native.Nat.{_*_, _≤_};
+ghost use Prim.Native.Nat.{_+_, _*_, _≤_};
 ghost use lib.ListN.{length, drop};
 ghost use Rattle.park_format.specs.Park.{headerOf, parkOf};
 ghost use Rattle.park_format.specs.Rules.{IsAccepted};
 ghost use Rattle.park_bill.specs.Bill.{bill};
-ghost use Rattle.park_bill.specs.Walk.{IsSite};
+ghost use Rattle.park_bill.specs.Walk.{billsFrom, IsSite};
 ghost use Rattle.park_bill.specs.Balance.{InBalance, RepliesInBalance};
-ghost use Rattle.park_bill.specs.Reply.{billsOf, listAfter, parkAnswer, parkOutcome, siteAnswer, siteOutcome};
+ghost use Rattle.park_bill.specs.Reply.{listAfter, parkAnswer, parkOutcome, siteAnswer, siteOutcome};
 
 pub enum SiteReply {
     Billed(Bill),
@@ -55,6 +55,27 @@ fn bill_at(
     )
 }
 
+// Writes the bills of some sites of an accepted file, those after the site first, each into its own part of a list.
+fn fill(file: &[u8], header: Header, first: usize, count: usize, list: &mut [u64])
+    requires accepted { ⌜ (IsAccepted (now file)) × (header ≡ headerOf (now file)) ⌝ }
+    requires sites { ⌜ first + count ≤ header .sites ⌝ }
+    requires room { ⌜ 11 * count ≤ length (now list) ⌝ }
+    ensures { λ _. ⌜ now (list .exit) ≡ billsFrom (parkOf (now (file .entry))) first count ++ drop (11 * count) (now (list .entry)) ⌝ }
+{
+    let sums = walk::add_up(file, header);
+    let flows = walk::after_transits(file, header, walk::before_transits(sums, header.sites));
+    let mut k = 0;
+    while k < count {
+        let at = 11 * k;
+        let next = first + k + 1;
+        let input = sums.ins[next];
+        let transit = sums.outs[next];
+        let flow = flows[next];
+        bill_at(file, header, next, input, transit, flow).write(&mut list[at..at + 11]);
+        k += 1;
+    }
+}
+
 // Bills one site, counted from 1. It takes any number for a site, and bytes of any number.
 pub fn bill_site(file: &[u8], site: u64) -> SiteReply
     ensures reply { λ r. ⌜ siteAnswer r ≡ siteOutcome (now (file .entry)) site ⌝ }
@@ -76,34 +97,9 @@ pub fn bill_site(file: &[u8], site: u64) -> SiteReply
             place: 0,
         });
     }
-    let k = site as usize;
-    let sums = walk::add_up(file, header);
-    let flows = walk::after_transits(file, header, walk::before_transits(sums, header.sites));
-    let input = sums.ins[k];
-    let transit = sums.outs[k];
-    let flow = flows[k];
-    SiteReply::Billed(bill_at(file, header, k, input, transit, flow))
-}
-
-// Writes the bill of each site of an accepted file into its own part of a list that has room for them.
-fn fill(file: &[u8], header: Header, list: &mut [u64])
-    requires accepted { ⌜ (IsAccepted (now file)) × (header ≡ headerOf (now file)) ⌝ }
-    requires room { ⌜ 11 * header .sites ≤ length (now list) ⌝ }
-    ensures { λ _. ⌜ now (list .exit) ≡ billsOf (parkOf (now (file .entry))) (header .sites) ++ drop (11 * header .sites) (now (list .entry)) ⌝ }
-{
-    let sums = walk::add_up(file, header);
-    let flows = walk::after_transits(file, header, walk::before_transits(sums, header.sites));
-    let sites = header.sites as usize;
-    let mut k = 0;
-    while k < sites {
-        let at = 11 * k;
-        let next = k + 1;
-        let input = sums.ins[next];
-        let transit = sums.outs[next];
-        let flow = flows[next];
-        bill_at(file, header, next, input, transit, flow).write(&mut list[at..at + 11]);
-        k += 1;
-    }
+    let mut list = [0u64; 11];
+    fill(file, header, site as usize - 1, 1, &mut list);
+    SiteReply::Billed(Bill::read(&list))
 }
 
 // Bills every site into a list, eleven numbers a site; a refusal leaves the list as it was.
@@ -122,6 +118,6 @@ pub fn bill_park(file: &[u8], list: &mut [u64]) -> ParkReply
             place: 0,
         });
     }
-    fill(file, header, list);
+    fill(file, header, 0, header.sites as usize, list);
     ParkReply::Billed(header.sites as u64)
 }

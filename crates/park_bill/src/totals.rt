@@ -134,19 +134,18 @@ impl Transits {
         }
     }
 
-    // The sums with one transit more.
+    // The sums with one transit more. A reading without its meter is 0 (rule 18), so only WP asks for one.
     pub fn with(self, line: Line) -> Transits
         requires { ⌜ RoomForTransit self line ⌝ }
         ensures { λ r. ⌜ r ≡ addTransit line self ⌝ }
     {
         let eerp = line.eerp as u64;
         let measured = line.measures_reactive();
-        let generates = line.measures_generated();
-        let generated = when(generates, line.generated as u64);
-        let night = when(generates, line.night as u64);
+        let generated = line.generated as u64;
+        let night = line.night as u64;
         Transits {
             active: self.active + when(measured, line.active as u64),
-            reactive: self.reactive + when(measured, line.reactive as u64),
+            reactive: self.reactive + line.reactive as u64,
             without_night: self.without_night + lacking(line.measures_night()),
             generated: self.generated + generated,
             night: self.night + night,

@@ -34,6 +34,13 @@ pub row-first : {v w : Option (ℕ × ℕ)} {b b′ : Bool} {n p : ℕ} {rows : 
 unfolding firstBroken
 row-first e f g = record { found = rw (← (g .found), ← f) e }
 
+-- a row that is broken says which, and one that is not leaves it to the rest
+pub row-broken : {b b′ : Bool} {n p : ℕ} {rows : List Row} → b ≡ b′ → b ≡ true → Finds (some (n, p)) (rule n p b′ ∷ rows)
+row-broken {n = n} {p = p} {rows = rows} e t = row-first (sym (ap (λ (b : Bool). cond b (some (n, p)) (firstBroken rows)) t)) e (record { found = refl })
+
+pub row-passed : {v : Option (ℕ × ℕ)} {b b′ : Bool} {n p : ℕ} {rows : List Row} → b ≡ b′ → b ≡ false → Finds v rows → Finds v (rule n p b′ ∷ rows)
+row-passed {v} {n = n} {p = p} e f g = row-first (sym (ap (λ (b : Bool). cond b (some (n, p)) v) f)) e g
+
 -- the first of two lists that has a broken row says which
 pub first-append : (xs ys : List Row) → firstBroken xs ≡ none → firstBroken (xs ++ ys) ≡ firstBroken ys
 unfolding firstBroken

@@ -1,12 +1,14 @@
 // A line record of a park file, and its rules.
 use crate::number;
 use crate::rule;
+use crate::rule::Refusal;
 use crate::rule::Verdict;
 ghost use mathlib.Core.Path.{_≡_};
-ghost use Prim.Native.Nat.{_+_, _≤_};
+ghost use mathlib.Core.Bool.{cond};
+ghost use Prim.Native.Nat.{_+_, _≤_, _<_};
 ghost use lib.ListN.{length};
 ghost use Rattle.park_format.specs.Park.{lineAt};
-ghost use Rattle.park_format.specs.Rules.{refusalOf, firstBroken, lineRules, measuresReactive, measuresGenerated, measuresNight, wrongEnds, wrongMeters, readingAbove, withoutMeter, wrongReadings};
+ghost use Rattle.park_format.specs.Rules.{refusalOf, firstBroken, lineRules, measuresReactive, measuresGenerated, measuresNight, wrongEnds, wrongMeters, readingAbove, wrongReadings};
 
 pub struct Line {
     // The site that the line comes from, and the one it goes to; 0 is the network.
@@ -82,13 +84,13 @@ impl Line {
         if sites < self.to {
             return true;
         }
-        if self.from == 0 {
-            return self.to == 0;
-        }
-        if self.to == 0 {
+        if self.from < self.to {
             return false;
         }
-        self.to <= self.from
+        if self.to != 0 {
+            return true;
+        }
+        self.from == 0
     }
 
     // Rule 15: the mark is above 7, or holds 4 without 2.
@@ -98,10 +100,7 @@ impl Line {
         if Line::MOST_METERS < self.meters {
             return true;
         }
-        if self.measures_night() {
-            return !self.measures_generated();
-        }
-        false
+        self.meters & 6 == 4
     }
 
     // Rule 17: a reading is above its most.
@@ -120,27 +119,22 @@ impl Line {
         Line::MOST_READING < self.night
     }
 
-    // Rule 18 of one reading: it is not 0 and has no meter.
-    fn without_meter(metered: bool, reading: u32) -> bool
-        ensures { λ r. ⌜ r ≡ withoutMeter metered reading ⌝ }
+    // A reading that has no meter; 0 where it has one.
+    fn unmetered(metered: bool, reading: u32) -> u64
+        ensures value { λ r. ⌜ r ≡ cond metered 0 reading ⌝ }
+        ensures bound { λ r. ⌜ r < 4294967296 ⌝ }
     {
-        if metered {
-            return false;
-        }
-        reading != 0
+        if metered { 0 } else { reading as u64 }
     }
 
     // Rule 18: a reading is not 0 and has no meter, or the night's generation is above the whole.
     fn wrong_readings(self) -> bool
         ensures { λ r. ⌜ r ≡ wrongReadings self ⌝ }
     {
-        if Line::without_meter(self.measures_reactive(), self.reactive) {
-            return true;
-        }
-        if Line::without_meter(self.measures_generated(), self.generated) {
-            return true;
-        }
-        if Line::without_meter(self.measures_night(), self.night) {
+        let reactive = Line::unmetered(self.measures_reactive(), self.reactive);
+        let generated = Line::unmetered(self.measures_generated(), self.generated);
+        let night = Line::unmetered(self.measures_night(), self.night);
+        if reactive + generated + night != 0 {
             return true;
         }
         self.generated < self.night
@@ -150,15 +144,21 @@ impl Line {
     pub fn check(self, sites: u8, place: u32) -> Verdict
         ensures { λ r. ⌜ refusalOf r ≡ firstBroken (lineRules sites place self) ⌝ }
     {
-        let readings = rule::first(self.wrong_readings(), 18, place, Verdict::Accepted);
-        let above = rule::first(self.reading_above(), 17, place, readings);
-        let eerp = rule::first(
-            rule::zero_or_above(Line::MOST_EERP, self.eerp as u32),
-            16,
-            place,
-            above,
-        );
-        let meters = rule::first(self.wrong_meters(), 15, place, eerp);
-        rule::first(self.wrong_ends(sites), 14, place, meters)
+        if self.wrong_ends(sites) {
+            return Verdict::Refused(Refusal { number: 14, place });
+        }
+        if self.wrong_meters() {
+            return Verdict::Refused(Refusal { number: 15, place });
+        }
+        if rule::zero_or_above(Line::MOST_EERP, self.eerp as u32) {
+            return Verdict::Refused(Refusal { number: 16, place });
+        }
+        if self.reading_above() {
+            return Verdict::Refused(Refusal { number: 17, place });
+        }
+        if self.wrong_readings() {
+            return Verdict::Refused(Refusal { number: 18, place });
+        }
+        Verdict::Accepted
     }
 }

@@ -11,10 +11,12 @@ use Rattle.park_format.specs.Park.{parkOf}
 use Rattle.park_format.specs.Rules.{IsAccepted, refusalOf}
 use Rattle.park_format.specs.declared.header.Header.{Header}
 use Rattle.park_bill.specs.Reply.{answer, billsOf, listAfter, unlessRefused}
+use Rattle.park_bill.specs.Walk.{billsFrom}
 use Rattle.park_bill.specs.Balance.{InBalance}
 use Rattle.park_bill.proofs.Outcomes.{park-balance}
 use Rattle.park_bill.proofs.Parks.{header-kept}
 use Rattle.park_bill.proofs.Refusals.{file-first, call-refuses, call-allows}
+use Rattle.park_bill.proofs.Slices.{from-start}
 use borrow.Author.Needs.{needs}
 use Rattle.park_bill.proofs.call.bill_park.Statement.{statement}
 use Rattle.park_bill.proofs.call.bill_park.Tie as tie
@@ -77,8 +79,11 @@ returns-2 c =
     let list = sym (ap (left (now (s .file)) (now (s .list))) e) in
     (sym (ap (outcome (now (s .file))) e), (list, in-balance (now (s .file)) (now (s .list)) list))
 
+cast-fill : tie.Need-cast-fill
+cast-fill c = search needs
+
 fill-requires : tie.Need-fill-requires
-fill-requires c κs = ((accepted (c .before .before .before), c .before .before .before .read .ensures), omega (arith, c .before .if1 .left))
+fill-requires c κs = ((accepted (c .before .before .before .before), c .before .before .before .before .read .ensures), (omega arith, omega (arith, c .before .before .if1 .left)))
 
 cast-t14 : tie.Need-cast-t14
 cast-t14 c = search needs
@@ -88,13 +93,14 @@ same-length c = search needs
 
 returns-3 : tie.Need-returns-3
 returns-3 c =
-    let s = c .before .before .before .before .before .before .before .before .before .before .before .before .before .args in
-    let same = sites-are (c .before .before .before .before .before .before .before) in
-    let long : 11 * parkOf (now (s .file)) .header .sites ≤ length (now (s .list)) = omega (arith, same, c .before .before .before .before .before .if1 .left) in
-    let e = call-allows (now (s .file)) 21 0 _ (accepted (c .before .before .before .before .before .before .before)) (le-ltb _ _ long) in
+    let s = c .before .before .before .before .before .before .before .before .before .before .before .before .before .before .args in
+    let same = sites-are (c .before .before .before .before .before .before .before .before) in
+    let long : 11 * parkOf (now (s .file)) .header .sites ≤ length (now (s .list)) = omega (arith, same, c .before .before .before .before .before .before .if1 .left) in
+    let e = call-allows (now (s .file)) 21 0 _ (accepted (c .before .before .before .before .before .before .before .before)) (le-ltb _ _ long) in
     let list =
     c .before .before .before .fill .ensures
-    ∙ ap (λ (n : ℕ). billsOf (parkOf (now (s .file))) n ++ drop (11 * n) (now (s .list))) same
+    ∙ ap (λ (n : ℕ). billsFrom (parkOf (now (s .file))) 0 n ++ drop (11 * n) (now (s .list))) same
+    ∙ ap (λ (bills : List ℕ). bills ++ drop (11 * parkOf (now (s .file)) .header .sites) (now (s .list))) (from-start (parkOf (now (s .file))) _)
     ∙ sym (ap (left (now (s .file)) (now (s .list))) e) in
     (ap inr same ∙ sym (ap (outcome (now (s .file))) e), (list, in-balance (now (s .file)) (now (s .list)) list))
 
@@ -110,6 +116,7 @@ bill-park-spec =
     cast-if1
     mul-if1
     returns-2
+    cast-fill
     fill-requires
     cast-t14
     same-length

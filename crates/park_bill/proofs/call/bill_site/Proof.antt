@@ -1,4 +1,4 @@
-use Prim.Native.Nat.{ℕ, _≤_, _<_}
+use Prim.Native.Nat.{ℕ, _+_, _-_, _≤_, _<_}
 use mathlib.Core.Logic.{_⊎_, inr}
 use mathlib.Core.Path.{_≡_, sym, ap, subst, _∙_}
 use mathlib.Core.Bool.{true, false}
@@ -17,7 +17,7 @@ use Rattle.park_bill.specs.declared.bill.Bill.{Bill}
 use Rattle.park_bill.proofs.Outcomes.{site-balance}
 use Rattle.park_bill.proofs.Parks.{header-kept}
 use Rattle.park_bill.proofs.Refusals.{file-first, call-refuses, call-allows}
-use Rattle.park_bill.proofs.Sites.{tangents-room, fresh, walked-site}
+use Rattle.park_bill.proofs.Slices.{one-bill}
 use borrow.Author.Needs.{needs}
 use Rattle.park_bill.proofs.call.bill_site.Statement.{statement}
 use Rattle.park_bill.proofs.call.bill_site.Tie as tie
@@ -37,9 +37,6 @@ module _ (c : tie.After-read) where
   sites-are : c .read .result .sites ≡ parkOf file-of .header .sites
   unfolding parkOf
   sites-are = ap (λ (h : Header). h .sites) (c .read .ensures)
-
-  few : c .read .result .sites ≤ 16
-  few = subst (λ (h : Header). h .sites ≤ 16) (sym (c .read .ensures)) (header-kept file-of accepted .sites .1)
 
 -- 20 and its site: beyond the first site, and beyond the last
 no-site : (s k : ℕ) → k ≡ 0 → zeroOrAbove s k ≡ true
@@ -89,48 +86,34 @@ returns-3 c =
       site-balance (now (s .file)),
     )
 
-add-up-requires : tie.Need-add-up-requires
-add-up-requires c κs = (accepted (c .before .before .before), c .before .before .before .read .ensures)
+-- the site asked for is the one after those before it
+site-after : (k : ℕ) → (k ≡ 0 → ⊥) → k - 1 + 1 ≡ k
+site-after k h = omega (arith, h)
 
-before-transits-requires : tie.Need-before-transits-requires
-before-transits-requires c κs = tangents-room (now (c .before .before .before .before .before .before .before .before .before .args .file)) (accepted (c .before .before .before .before)) (c .before .before .before .before .read .result) (c .before .before .before .before .read .ensures) (c .add-up .result) (c .add-up .ensures)
+sub-fill : tie.Need-sub-fill
+sub-fill c = omega (arith, c .before .before .if1 .left)
 
-after-transits-requires : tie.Need-after-transits-requires
-after-transits-requires c κs = (
-  (accepted (c .before .before .before .before .before), c .before .before .before .before .before .read .ensures),
-  fresh (now (c .before .before .before .before .before .before .before .before .before .before .args .file)) (accepted (c .before .before .before .before .before)) (c .before .before .before .before .before .read .result) (c .before .before .before .before .before .read .ensures) (c .before .add-up .result) (c .before .add-up .ensures) (c .before-transits .result) (c .before-transits .ensures),
-)
+slice-aggregate-fill : tie.Need-slice-aggregate-fill
+slice-aggregate-fill c = search needs
 
-mul-input : tie.Need-mul-input
-mul-input c = search needs
+fill-requires : tie.Need-fill-requires
+fill-requires c κs = ((accepted (c .before .before .before .before), c .before .before .before .before .read .ensures), (omega (arith, c .before .before .before .if1 .left, c .before .if2 .left), search needs))
 
-element-copy-out-input : tie.Need-element-copy-out-input
-element-copy-out-input c = omega (arith, few (c .before .before .before .before .before .before), c .before .before .before .if2 .left)
+slice-aggregate-read : tie.Need-slice-aggregate-read
+slice-aggregate-read c = search needs
 
-mul-transit : tie.Need-mul-transit
-mul-transit c = search needs
-
-element-copy-out-transit : tie.Need-element-copy-out-transit
-element-copy-out-transit c = omega (arith, few (c .before .before .before .before .before .before .before), c .before .before .before .before .if2 .left)
-
-mul-flow : tie.Need-mul-flow
-mul-flow c = search needs
-
-array-copy-out-flow : tie.Need-array-copy-out-flow
-array-copy-out-flow c = omega (arith, few (c .before .before .before .before .before .before .before .before), c .before .before .before .before .before .if2 .left)
-
-bill-at-requires : tie.Need-bill-at-requires
-bill-at-requires c κs = (
-  (accepted (c .before .before .before .before .before .before .before .before .before), c .before .before .before .before .before .before .before .before .before .read .ensures),
-  walked-site (now (c .before .before .before .before .before .before .before .before .before .before .before .before .before .before .args .file)) (accepted (c .before .before .before .before .before .before .before .before .before)) (c .before .before .before .before .before .before .before .before .before .read .result) (c .before .before .before .before .before .before .before .before .before .read .ensures) (c .before .before .before .before .before .add-up .result) (c .before .before .before .before .before .add-up .ensures) (c .before .before .before .before .before-transits .result) (c .before .before .before .before .before-transits .ensures) (c .before .before .before .after-transits .result) (c .before .before .before .after-transits .ensures)
-      (c .before .before .before .before .before .before .before .before .before .before .before .before .before .before .args .site) (omega (arith, c .before .before .before .before .before .before .before .before .if1 .left)) (c .before .before .before .before .before .before .if2 .left),
-)
+read-requires-2 : tie.Need-read-requires-2
+read-requires-2 c κs = search needs
 
 returns-4 : tie.Need-returns-4
 returns-4 c =
-    let s = c .before .before .before .before .before .before .before .before .before .before .before .before .before .before .before .args in (
-      ap inr (c .bill-at .ensures)
-          ∙ sym (ap (outcome (now (s .file)) (s .site)) (call-allows (now (s .file)) 20 0 _ (accepted (c .before .before .before .before .before .before .before .before .before .before)) (is-site _ (s .site) (c .before .before .before .before .before .before .before .before .before .if1 .left) (subst (λ (n : ℕ). s .site ≤ n) (sites-are (c .before .before .before .before .before .before .before .before .before .before)) (c .before .before .before .before .before .before .before .if2 .left))))),
+    let s = c .before .before .before .before .before .before .before .before .before .before .before .before .before .args in
+    let k = s .site in (
+      ap inr
+          (c .read2 .ensures
+          ∙ one-bill (parkOf (now (s .file))) (k - 1) _ (c .before .before .before .fill .ensures)
+          ∙ ap (bill (parkOf (now (s .file)))) (site-after k (c .before .before .before .before .before .before .before .if1 .left)))
+          ∙ sym (ap (outcome (now (s .file)) k) (call-allows (now (s .file)) 20 0 _ (accepted (c .before .before .before .before .before .before .before .before)) (is-site _ k (c .before .before .before .before .before .before .before .if1 .left) (subst (λ (n : ℕ). k ≤ n) (sites-are (c .before .before .before .before .before .before .before .before)) (c .before .before .before .before .before .if2 .left))))),
       site-balance (now (s .file)),
     )
 
@@ -146,14 +129,9 @@ bill-site-spec =
     returns-2
     cast-if2
     returns-3
-    add-up-requires
-    before-transits-requires
-    after-transits-requires
-    mul-input
-    element-copy-out-input
-    mul-transit
-    element-copy-out-transit
-    mul-flow
-    array-copy-out-flow
-    bill-at-requires
+    sub-fill
+    slice-aggregate-fill
+    fill-requires
+    slice-aggregate-read
+    read-requires-2
     returns-4)
