@@ -16,7 +16,7 @@ pub struct Inputs {
     // D.
     pub eerp: u64,
     pub count: u64,
-    // How many lack the meter of generation, or that of the night nightLosses.
+    // How many lack the meter of generation, or that of generation at night.
     pub without_generation: u64,
     pub without_night: u64,
     // WG and WN, and each times D.
