@@ -19,10 +19,10 @@ use Rattle.park_charge.specs.Flow.{inflow, outflow}
 use Rattle.park_charge.specs.Losses.{settled, cut, settled-balance}
 use Rattle.park_charge.specs.Rounding.{rounded, rounded-upper, rounded-lower}
 use Rattle.park_charge.specs.Charge.{lossCharge}
-use Rattle.park_bill.specs.Sums.{sumBy}
+use Rattle.park_bill.specs.Sums.{overSites, sumBy, EachSite}
 use Rattle.park_bill.specs.Bill.{bill, lossIn, lossOut, tangentOf, weightedSum}
 use Rattle.park_bill.specs.Totals.{when}
-use Rattle.park_bill.specs.Balance.{overSites, EachSite, Measured, comingIn, goingBack, networkEnergy, Balance}
+use Rattle.park_bill.specs.Balance.{Measured, comingIn, goingBack, networkEnergy, Balance}
 use Rattle.park_bill.proofs.Sums.{sumBy-select}
 
 -- sums over sites 1 to n

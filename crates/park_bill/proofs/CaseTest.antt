@@ -17,10 +17,9 @@ use Rattle.park_charge.specs.Flow.{inflow, outflow, tangent}
 use Rattle.park_charge.specs.Losses.{cut, settled}
 use Rattle.park_charge.specs.Generation.{computedGeneration}
 use Rattle.park_charge.specs.Charge.{computedCharge, discount, lossCharge, reason, surcharge}
-use Rattle.park_bill.specs.Sums.{allOf, sumBy}
+use Rattle.park_bill.specs.Sums.{allOf, overSites, sumBy, EachSite}
 use Rattle.park_bill.specs.Bill.{consumptionOf, generationCharge, generationOf, tangentOf, weightedSum}
 use Rattle.park_bill.specs.Reply.{billsOf, refusalWith}
-use Rattle.park_bill.specs.Balance.{EachSite, overSites}
 use Rattle.park_bill.specs.Cases.{accepts, agree, AllCases, Case, cases, equal, holds, measuredLine, numbers, same, Says, Whether}
 use Rattle.park_bill.specs.Cases.Case.{balanceCase, chargeCase, reasonCase, surchargeCase, tangentCase, wholeBill}
 use Rattle.park_bill.proofs.Balances.{over-cong, over-none, over-zero}
@@ -117,16 +116,20 @@ entry (tangentCase wq wp tg) e = eqb-true _ tg e
 entry (surchargeCase tg pc p2) e = eqb-true _ p2 e
 entry (chargeCase product pc) e = eqb-true _ pc e
 entry (reasonCase c g r) e = eqb-true _ r e
-entry (balanceCase file measured balanced uncut) e =
+entry (balanceCase file energy measured balanced uncut) e =
     let a = and-true _ _ e in
     let b = and-true _ _ (a .1) in
-    let c = and-true _ _ (b .1) in (
+    let c = and-true _ _ (b .1) in
+    let d = and-true _ _ (c .1) in (
       accepts-is (refusal file) (a .0),
       (
-        whether measured _ (measured-is (parkOf file .lines)) (is-measured (parkOf file .lines)) (b .0),
+        equal-is _ energy (b .0),
         (
-          whether balanced _ (equal-is _ _) (equation _ _) (c .0),
-          whether uncut _ (uncut-is (λ (k : ℕ). numbers file k 4) _) (is-uncut (λ (k : ℕ). numbers file k 4) _) (c .1),
+          whether measured _ (measured-is (parkOf file .lines)) (is-measured (parkOf file .lines)) (c .0),
+          (
+            whether balanced _ (equal-is _ _) (equation _ _) (d .0),
+            whether uncut _ (uncut-is (λ (k : ℕ). numbers file k 4) _) (is-uncut (λ (k : ℕ). numbers file k 4) _) (d .1),
+          ),
         ),
       ),
     )

@@ -1,4 +1,4 @@
--- Park Alder and the starred cases (01, "Park Alder, and its neighbours"), as entries of one list, and three parks that show what the
+-- Park Alder and the starred cases (01, "Park Alder, and its neighbours"), as entries of one list, and four parks that show what the
 -- condition of the loss balance is for. `holds` says of each entry whether it is so; `Says` is what it then means. `all-cases` of
 -- CaseTest is the proof of `AllCases`.
 -- Assumes nothing.
@@ -57,6 +57,10 @@ alderCut = alderWith (line 1 2 1 700 10000 40000 0 0)
 abbrev pub alderUnmetered : List ℕ
 alderUnmetered = alderWith (line 1 2 0 700 10000 0 0 0)
 
+-- site 1 sends back more than the park takes in, and no meter tells its reactive energy
+abbrev pub alderBack : List ℕ
+alderBack = alderWith (line 1 0 0 5000 10000000 0 0 0)
+
 -- number j of site k, as bill_site replies it, and that number added over the sites
 abbrev pub numbers : List ℕ → ℕ → ℕ → ℕ
 numbers file k j = inReply (siteOutcome file k) j
@@ -75,10 +79,11 @@ pub data Case : Type 0 where
   chargeCase : ℕ → ℕ → Case
   -- consumption, generation and the reason, at a power of 16
   reasonCase : ℕ → ℕ → ℕ → Case
-  -- a file that is accepted; whether it meets the condition, whether settled losses are in balance, and whether no site is cut
-  balanceCase : List ℕ → Bool → Bool → Bool → Case
+  -- a file that is accepted; its energy at the network, whether it meets the condition, whether settled losses are in balance, and
+  -- whether no site is cut
+  balanceCase : List ℕ → ℤ → Bool → Bool → Bool → Case
 
--- 01's cases (a WP0 of 0 with and without WQ0), and the three parks
+-- 01's cases (a WP0 of 0 with and without WQ0), and the four parks
 abbrev pub cases : List Case
 cases =
     wholeBill alder (26000 ∷ 867 ∷ 17270000 ∷ 0 ∷ 100000 ∷ 863500 ∷ 334500 ∷ 328725 ∷ 0 ∷ 1526725 ∷ 0 ∷ 8000 ∷ 533 ∷ 5476000 ∷ 0 ∷ 0 ∷ 273800 ∷ 0 ∷ 21928 ∷ 27380 ∷ 268348 ∷ 0 ∷ []) 22746000 22746000
@@ -93,9 +98,10 @@ cases =
     ∷ chargeCase 5000000 1
     ∷ reasonCase 999 9999 2
     ∷ reasonCase 1000 0 0
-    ∷ balanceCase alder true true true
-    ∷ balanceCase alderCut true true false
-    ∷ balanceCase alderUnmetered false false true
+    ∷ balanceCase alder (pos 22746000) true true true
+    ∷ balanceCase alderCut (pos 22746000) true true false
+    ∷ balanceCase alderUnmetered (pos 22746000) false false true
+    ∷ balanceCase alderBack (negsuc 37477253999) true true false
     ∷ []
 
 abbrev pub same : List ℕ → List ℕ → Bool
@@ -131,11 +137,12 @@ holds (tangentCase wq wp tg) = eqb (tangent wp wq) tg
 holds (surchargeCase tg pc p2) = eqb (surcharge pc tg) p2
 holds (chargeCase product pc) = eqb (lossCharge product 1) pc
 holds (reasonCase c g r) = eqb (reason 16 c g) r
-holds (balanceCase file measured balanced uncut) =
+holds (balanceCase file energy measured balanced uncut) =
     accepts (refusal file)
+    && (equal (networkEnergy (parkOf file)) energy
     && (agree measured (allOf measuredLine (parkOf file .lines))
     && (agree balanced (equal (pos (total file 3)) (networkEnergy (parkOf file) +ℤ pos (total file 4)))
-    && agree uncut (eqb (total file 4) 0)))
+    && agree uncut (eqb (total file 4) 0))))
 
 -- that something is so, or that it is not
 abbrev pub Whether : Bool → Type 0 → Type 0
@@ -152,11 +159,12 @@ Says (tangentCase wq wp tg) = tangent wp wq ≡ tg
 Says (surchargeCase tg pc p2) = surcharge pc tg ≡ p2
 Says (chargeCase product pc) = lossCharge product 1 ≡ pc
 Says (reasonCase c g r) = reason 16 c g ≡ r
-Says (balanceCase file measured balanced uncut) =
+Says (balanceCase file energy measured balanced uncut) =
     IsAccepted file
+    × ((networkEnergy (parkOf file) ≡ energy)
     × (Whether measured (Measured (parkOf file))
     × (Whether balanced (pos (total file 3) ≡ networkEnergy (parkOf file) +ℤ pos (total file 4))
-    × Whether uncut (AllZero (parkOf file) (numbers file) 4)))
+    × Whether uncut (AllZero (parkOf file) (numbers file) 4))))
 
 abbrev pub AllCases : Type 0
 AllCases = Every Says cases

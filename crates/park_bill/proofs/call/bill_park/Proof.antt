@@ -13,7 +13,7 @@ use Rattle.park_format.specs.declared.header.Header.{Header}
 use Rattle.park_bill.specs.Reply.{answer, billsOf, listAfter, unlessRefused}
 use Rattle.park_bill.specs.Walk.{billsFrom}
 use Rattle.park_bill.specs.Balance.{InBalance}
-use Rattle.park_bill.proofs.Outcomes.{park-balance}
+use Rattle.park_bill.proofs.Outcomes.{loss-balance}
 use Rattle.park_bill.proofs.Parks.{header-kept}
 use Rattle.park_bill.proofs.Refusals.{file-first, call-refuses, call-allows}
 use Rattle.park_bill.proofs.Slices.{from-start}
@@ -30,7 +30,7 @@ left file before refused = unlessRefused refused (billsOf (parkOf file) (parkOf 
 
 -- a list that is as the call leaves it is in balance
 in-balance : (file before : List ℕ) {after : List ℕ} → after ≡ listAfter file before → InBalance file before after
-in-balance file before e = subst (InBalance file before) (sym e) (park-balance file before)
+in-balance file before e = subst (InBalance file before) (sym e) (loss-balance .0 file before)
 
 -- once the header is read: the file is accepted
 module _ (c : tie.After-read) where

@@ -14,7 +14,7 @@ use Rattle.park_format.proofs.Tests.{or-yes, or-next, or-no}
 use Rattle.park_bill.specs.Bill.{bill}
 use Rattle.park_bill.specs.Reply.{answer}
 use Rattle.park_bill.specs.declared.bill.Bill.{Bill}
-use Rattle.park_bill.proofs.Outcomes.{site-balance}
+use Rattle.park_bill.proofs.Outcomes.{loss-balance}
 use Rattle.park_bill.proofs.Parks.{header-kept}
 use Rattle.park_bill.proofs.Refusals.{file-first, call-refuses, call-allows}
 use Rattle.park_bill.proofs.Slices.{one-bill}
@@ -58,7 +58,7 @@ returns : tie.Need-returns
 returns c =
     let s = c .before .before .before .before .before .args in (
       sym (ap (outcome (now (s .file)) (s .site)) (file-first (now (s .file)) _ (sym (ap refusalOf (c .before .r .given .1)) ∙ c .before .before .before .check .ensures))),
-      site-balance (now (s .file)),
+      loss-balance .1 (now (s .file)),
     )
 
 enum-told : tie.Need-enum-told
@@ -73,7 +73,7 @@ returns-2 : tie.Need-returns-2
 returns-2 c =
     let s = c .before .before .before .before .before .before .args in (
       sym (ap (outcome (now (s .file)) (s .site)) (call-refuses (now (s .file)) 20 0 _ (accepted (c .before)) (no-site _ (s .site) (c .if1 .taken)))),
-      site-balance (now (s .file)),
+      loss-balance .1 (now (s .file)),
     )
 
 cast-if2 : tie.Need-cast-if2
@@ -83,7 +83,7 @@ returns-3 : tie.Need-returns-3
 returns-3 c =
     let s = c .before .before .before .before .before .before .before .before .args in (
       sym (ap (outcome (now (s .file)) (s .site)) (call-refuses (now (s .file)) 20 0 _ (accepted (c .before .before .before)) (beyond _ (s .site) (c .before .before .if1 .left) (subst (λ (n : ℕ). n < s .site) (sites-are (c .before .before .before)) (c .if2 .taken))))),
-      site-balance (now (s .file)),
+      loss-balance .1 (now (s .file)),
     )
 
 -- the site asked for is the one after those before it
@@ -114,7 +114,7 @@ returns-4 c =
           ∙ one-bill (parkOf (now (s .file))) (k - 1) _ (c .before .before .before .fill .ensures)
           ∙ ap (bill (parkOf (now (s .file)))) (site-after k (c .before .before .before .before .before .before .before .if1 .left)))
           ∙ sym (ap (outcome (now (s .file)) k) (call-allows (now (s .file)) 20 0 _ (accepted (c .before .before .before .before .before .before .before .before)) (is-site _ k (c .before .before .before .before .before .before .before .if1 .left) (subst (λ (n : ℕ). k ≤ n) (sites-are (c .before .before .before .before .before .before .before .before)) (c .before .before .before .before .before .if2 .left))))),
-      site-balance (now (s .file)),
+      loss-balance .1 (now (s .file)),
     )
 
 pub bill-site-spec : {M : Type 1} → statement M
