@@ -6,6 +6,7 @@ use crate::totals::Inputs;
 use crate::totals::Transits;
 use crate::walk;
 use park_format::header::Header;
+use park_format::line::Line;
 use park_format::rule::Refusal;
 use park_format::rule::Verdict;
 use park_format::site::Site;
@@ -16,7 +17,7 @@ ghost use lib.ListN.{length, drop};
 ghost use Rattle.park_format.specs.Park.{headerOf, parkOf};
 ghost use Rattle.park_format.specs.Rules.{IsAccepted};
 ghost use Rattle.park_bill.specs.Bill.{bill};
-ghost use Rattle.park_bill.specs.Walk.{billsFrom, IsSite};
+ghost use Rattle.park_bill.specs.Walk.{billsFrom, IsSite, Summed};
 ghost use Rattle.park_bill.specs.Balance.{InBalance, RepliesInBalance};
 ghost use Rattle.park_bill.specs.Reply.{listAfter, parkAnswer, parkOutcome, siteAnswer, siteOutcome};
 
@@ -55,25 +56,63 @@ fn bill_at(
     )
 }
 
-// Writes the bills of some sites of an accepted file, those after the site first, each into its own part of a list.
+// Writes the bills of some sites of an accepted file, those after the site first, each into its own part of a list, from the sums of
+// the inputs and the transits of every site.
+fn write_bills(
+    file: &[u8],
+    header: Header,
+    ins: [Inputs; 17],
+    outs: [Transits; 17],
+    first: usize,
+    count: usize,
+    list: &mut [u64],
+)
+    requires accepted { ⌜ (IsAccepted (now file)) × (header ≡ headerOf (now file)) ⌝ }
+    requires summed { ⌜ Summed ins outs (parkOf (now file) .lines) ⌝ }
+    requires sites { ⌜ first + count ≤ header .sites ⌝ }
+    requires room { ⌜ 11 * count ≤ length (now list) ⌝ }
+    ensures { λ _. ⌜ now (list .exit) ≡ billsFrom (parkOf (now (file .entry))) first count ++ drop (11 * count) (now (list .entry)) ⌝ }
+{
+    let before = walk::before_transits(ins, outs, header.sites);
+    let flows = walk::after_transits(file, header, before);
+    let mut k = 0;
+    while k < count {
+        let at = 11 * k;
+        let next = first + k + 1;
+        let input = ins[next];
+        let transit = outs[next];
+        let flow = flows[next];
+        bill_at(file, header, next, input, transit, flow).write(&mut list[at..at + 11]);
+        k += 1;
+    }
+}
+
+// Writes the bills of some sites of an accepted file, those after the site first, each into its own part of a list. Each line is added
+// up at both its ends; index 0 takes the network's end. The sums are handed on rather than returned, which would copy them.
 fn fill(file: &[u8], header: Header, first: usize, count: usize, list: &mut [u64])
     requires accepted { ⌜ (IsAccepted (now file)) × (header ≡ headerOf (now file)) ⌝ }
     requires sites { ⌜ first + count ≤ header .sites ⌝ }
     requires room { ⌜ 11 * count ≤ length (now list) ⌝ }
     ensures { λ _. ⌜ now (list .exit) ≡ billsFrom (parkOf (now (file .entry))) first count ++ drop (11 * count) (now (list .entry)) ⌝ }
 {
-    let sums = walk::add_up(file, header);
-    let flows = walk::after_transits(file, header, walk::before_transits(sums, header.sites));
-    let mut k = 0;
-    while k < count {
-        let at = 11 * k;
-        let next = first + k + 1;
-        let input = sums.ins[next];
-        let transit = sums.outs[next];
-        let flow = flows[next];
-        bill_at(file, header, next, input, transit, flow).write(&mut list[at..at + 11]);
-        k += 1;
+    let at = Header::LEN + Site::LEN * (header.sites as usize);
+    let lines = header.lines as usize;
+    let no_input = Inputs::none();
+    let no_transit = Transits::none();
+    let mut ins = [no_input; 17];
+    let mut outs = [no_transit; 17];
+    let mut i = 0;
+    while i < lines {
+        let line = Line::read(file, at + Line::LEN * i);
+        let to = line.to as usize;
+        let input = ins[to];
+        ins[to] = input.with(line);
+        let from = line.from as usize;
+        let transit = outs[from];
+        outs[from] = transit.with(line);
+        i += 1;
     }
+    write_bills(file, header, ins, outs, first, count, list);
 }
 
 // Bills one site, counted from 1. It takes any number for a site, and bytes of any number.

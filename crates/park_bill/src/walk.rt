@@ -9,50 +9,20 @@ use park_format::site::Site;
 ghost use mathlib.Core.Path.{_≡_};
 ghost use Rattle.park_format.specs.Park.{headerOf, parkOf};
 ghost use Rattle.park_format.specs.Rules.{IsAccepted};
-ghost use Rattle.park_bill.specs.Walk.{FlowsAfter, WithoutTransits, RoomForTangents, FlowsBefore, Summed};
+ghost use Rattle.park_bill.specs.Walk.{FlowsAfter, WithoutTransits, RoomForTangents, FlowsBefore};
 
-pub struct Sums {
-    pub ins: [Inputs; 17],
-    pub outs: [Transits; 17],
-}
-
-// The sums of every site of an accepted file. Each line is added at both its ends.
-pub fn add_up(file: &[u8], header: Header) -> Sums
-    requires { ⌜ (IsAccepted (now file)) × (header ≡ headerOf (now file)) ⌝ }
-    ensures { λ r. ⌜ Summed r (parkOf (now (file .entry)) .lines) ⌝ }
-{
-    let at = Header::LEN + Site::LEN * (header.sites as usize);
-    let lines = header.lines as usize;
-    let no_input = Inputs::none();
-    let no_transit = Transits::none();
-    let mut ins = [no_input; 17];
-    let mut outs = [no_transit; 17];
-    let mut i = 0;
-    while i < lines {
-        let line = Line::read(file, at + Line::LEN * i);
-        let to = line.to as usize;
-        let input = ins[to];
-        ins[to] = input.with(line);
-        let from = line.from as usize;
-        let transit = outs[from];
-        outs[from] = transit.with(line);
-        i += 1;
-    }
-    Sums { ins, outs }
-}
-
-// The flows of the sites before any transit: their tangents, and the losses of their inputs.
-pub fn before_transits(sums: Sums, sites: u8) -> [Flow; 17]
-    requires { ⌜ RoomForTangents sums sites ⌝ }
-    ensures { λ r. ⌜ FlowsBefore r sums sites ⌝ }
+// The flows of the sites before any transit: their tangents, and the losses of their inputs. The network has none.
+pub fn before_transits(ins: [Inputs; 17], outs: [Transits; 17], sites: u8) -> [Flow; 17]
+    requires { ⌜ RoomForTangents ins outs sites ⌝ }
+    ensures { λ r. ⌜ FlowsBefore r ins outs sites ⌝ }
 {
     let last = sites as usize;
     let no_flow = Flow::none();
     let mut flows = [no_flow; 17];
-    let mut k = 0;
+    let mut k = 1;
     while k <= last {
-        let input = sums.ins[k];
-        let transit = sums.outs[k];
+        let input = ins[k];
+        let transit = outs[k];
         flows[k] = Flow::start(input, transit);
         k += 1;
     }

@@ -84,13 +84,13 @@ impl Line {
         if sites < self.to {
             return true;
         }
-        if self.from < self.to {
-            return false;
-        }
-        if self.to != 0 {
+        let from = self.from as u32;
+        let to = self.to as u32;
+        if from + to == 0 {
             return true;
         }
-        self.from == 0
+        // One less in a byte, where a `to` of 0 comes round to the highest: no branch depends on where a good line goes.
+        (to + 255) % 256 < from
     }
 
     // Rule 15: the mark is above 7, or holds 4 without 2.

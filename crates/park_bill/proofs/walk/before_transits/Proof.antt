@@ -1,42 +1,56 @@
-use Prim.Native.Nat.{ℕ, _+_, _-_, _≤_, _<_}
+use Prim.Native.Nat.{ℕ, _+_, _-_, _≤_, _<_, suc-le-suc}
 use native.Mathlib.Omega.{arith}
-use native.Mathlib.Nat.{not-suc-le-zero}
+use native.Mathlib.Nat.{le-of-suc-le-suc, le-trans, not-suc-le-zero}
 use mathlib.Core.Path.{_≡_, refl, _∙_}
 use borrow.Author.Needs.{needs}
 use borrow.Author.Count.{below-more}
-use lib.ListN.{length, getD, set, length-set}
+use lib.Dec.{lit≤, lit<}
+use lib.ListN.{length, getD, getD-replicate, set, length-set}
 use lib.Seq.{getD-set-same, getD-set-other}
 use Rattle.park_bill.specs.Totals.{startFlow, noInputs, noTransits, noFlow}
 use Rattle.park_bill.proofs.walk.before_transits.Statement.{statement}
 use Rattle.park_bill.proofs.walk.before_transits.Tie as tie
 
 abbrev Inv-loop : tie.InvT-loop
-Inv-loop sites sums last flows₀ k₀ flows k =
-    (k ≤ sites + 1)
+Inv-loop sites ins outs last flows₀ k₀ flows k =
+    ((1 ≤ k) × (k ≤ sites + 1))
     × ((last ≡ sites)
     × ((length flows ≡ 17)
-    × ((j : ℕ) → j < k → getD flows j noFlow ≡ startFlow (getD (sums .ins) j noInputs) (getD (sums .outs) j noTransits))))
+    × ((getD flows 0 noFlow ≡ noFlow)
+    × ((j : ℕ) → j < k → 1 ≤ j → getD flows j noFlow ≡ startFlow (getD ins j noInputs) (getD outs j noTransits)))))
 
 abbrev μ-loop : tie.MeasureT-loop
-μ-loop sites sums last flows₀ k₀ flows k = sites + 1 - k
+μ-loop sites ins outs last flows₀ k₀ flows k = sites + 1 - k
 
 none-requires : tie.Need-none-requires Inv-loop μ-loop
 none-requires c κs = search needs
 
 loop-holds : tie.Need-loop-holds Inv-loop μ-loop
-loop-holds c = (search needs, (refl, (refl, λ j h. absurd (not-suc-le-zero h))))
+loop-holds c = (
+  (lit≤ tt, omega arith),
+  (
+    refl,
+    (
+      refl,
+      (
+        getD-replicate 17 0 (c .none .result) noFlow (lit< tt) ∙ c .none .ensures,
+        λ j h low. absurd (not-suc-le-zero (le-of-suc-le-suc (le-trans (suc-le-suc low) h))),
+      ),
+    ),
+  ),
+)
 
 mul-input : tie.Need-mul-input Inv-loop μ-loop
 mul-input c = search needs
 
-element-copy-out-input : tie.Need-element-copy-out-input Inv-loop μ-loop
-element-copy-out-input c = omega (arith, c .loop-test .taken, c .before .loop .inv, c .before .before .before .pre .few)
+array-copy-out-input : tie.Need-array-copy-out-input Inv-loop μ-loop
+array-copy-out-input c = omega (arith, c .loop-test .taken, c .before .loop .inv, c .before .before .before .pre .few)
 
 mul-transit : tie.Need-mul-transit Inv-loop μ-loop
 mul-transit c = search needs
 
-element-copy-out-transit : tie.Need-element-copy-out-transit Inv-loop μ-loop
-element-copy-out-transit c = omega (arith, c .before .loop-test .taken, c .before .before .loop .inv, c .before .before .before .before .pre .few)
+array-copy-out-transit : tie.Need-array-copy-out-transit Inv-loop μ-loop
+array-copy-out-transit c = omega (arith, c .before .loop-test .taken, c .before .before .loop .inv, c .before .before .before .before .pre .few)
 
 start-requires : tie.Need-start-requires Inv-loop μ-loop
 start-requires c κs = c .before .before .before .before .before .pre .room (c .before .before .before .loop .k) (omega (arith, c .before .before .loop-test .taken, c .before .before .before .loop .inv))
@@ -57,14 +71,17 @@ loop-again : tie.Need-loop-again Inv-loop μ-loop
 loop-again c =
     let l = c .before .before .before .before .loop in
     let room : l .k < length (l .flows) = omega (arith, c .before .before .before .loop-test .taken, l .inv, c .before .before .before .before .before .before .pre .few) in (
-      omega (arith, c .before .before .before .loop-test .taken, l .inv),
+      (omega arith, omega (arith, c .before .before .before .loop-test .taken, l .inv)),
       (
         l .inv .1 .0,
         (
           simp length-set (l .inv .1 .1 .0),
-          below-more _ (l .k)
-              (λ j h. getD-set-other (l .flows) (l .k) j _ noFlow (λ e. omega arith) ∙ l .inv .1 .1 .1 j h)
-              (getD-set-same (l .flows) (l .k) _ noFlow room ∙ c .start .ensures),
+          (
+            getD-set-other (l .flows) (l .k) 0 _ noFlow (λ e. omega (arith, l .inv .0 .0)) ∙ l .inv .1 .1 .1 .0,
+            below-more _ (l .k)
+                (λ j h low. getD-set-other (l .flows) (l .k) j _ noFlow (λ e. omega arith) ∙ l .inv .1 .1 .1 .1 j h low)
+                (λ low. getD-set-same (l .flows) (l .k) _ noFlow room ∙ c .start .ensures),
+          ),
         ),
       ),
     )
@@ -74,7 +91,8 @@ returns c =
     let l = c .before .loop in
     record {
       places = l .inv .1 .1 .0;
-      flow = λ k h. l .inv .1 .1 .1 k (omega (arith, c .loop-test .left, l .inv));
+      network = l .inv .1 .1 .1 .0;
+      flow = λ k low h. l .inv .1 .1 .1 .1 k (omega (arith, c .loop-test .left, l .inv)) low;
     }
 
 pub before-transits-spec : {M : Type 1} → statement M
@@ -86,9 +104,9 @@ before-transits-spec =
     none-requires
     loop-holds
     mul-input
-    element-copy-out-input
+    array-copy-out-input
     mul-transit
-    element-copy-out-transit
+    array-copy-out-transit
     start-requires
     mul-flows
     array-set-from-flows
