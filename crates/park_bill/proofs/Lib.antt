@@ -11,4 +11,3 @@ pub mod Refusals
 pub mod Slices
 pub mod Balances
 pub mod Outcomes
-pub mod CaseTest

@@ -15,7 +15,7 @@ use Rattle.park_format.proofs.Accepted.{kept}
 use Rattle.park_format.proofs.Lists.{every-at, length-listOf}
 use Rattle.park_bill.proofs.Walks.{kept-small}
 
-every-snoc : {A : Type 0} (P : A → Type 0) (xs : List A) (y : A) → Every P xs → P y → Every P (xs ++ (y ∷ []))
+pub every-snoc : {A : Type 0} (P : A → Type 0) (xs : List A) (y : A) → Every P xs → P y → Every P (xs ++ (y ∷ []))
 every-snoc P [] y e h = (h, tt)
 every-snoc P (x ∷ xs) y e h = (e .0, every-snoc P xs y (e .1) h)
 

@@ -1,4 +1,4 @@
--- The loss balance (01, demand 3), for every accepted park whose lines between two sites all have a meter of reactive consumption.
+-- The loss balance (demand 3; 01, the paragraph after the eleven numbers), for every accepted park whose lines between two sites all have a meter of reactive consumption.
 -- Assumes nothing.
 use Prim.Native.Nat.{ℕ, _+_, _*_, _≤_}
 use mathlib.Core.Logic.{_↔_}

@@ -5,4 +5,3 @@ pub mod Walk
 pub mod Site
 pub mod Reply
 pub mod Balance
-pub mod Cases

@@ -2,52 +2,12 @@
 use libc::STDIN_FILENO;
 use libc::STDOUT_FILENO;
 use park_bill::call::ParkReply;
-use park_format::rule::Refusal;
 ghost use Rattle.io.specs.Counts.{Counts};
+ghost use Rattle.park_text.specs.Answer.{answerTo};
+ghost use Rattle.park_text.specs.Put.{Starts};
 
-// The longest accepted file has 1,534 bytes. A longer one is refused for its length, since there is room for more.
+// The longest accepted file has 1,534 bytes. A file with no room here is refused by its first bytes as by all (CutAnswer of park_text).
 const ROOM: usize = 2048;
-
-// Eleven numbers for each of 16 sites.
-const NUMBERS: usize = 176;
-
-fn print_refusal(r: Refusal) {
-    io::write_all(STDOUT_FILENO, b"refused,");
-    io::print_decimal(STDOUT_FILENO, r.number as u64);
-    io::write_all(STDOUT_FILENO, b",");
-    io::print_decimal(STDOUT_FILENO, r.place as u64);
-    io::write_all(STDOUT_FILENO, b"\n");
-}
-
-// A line of a site: its number, and then each number of its part of the list.
-fn print_site(site: u64, numbers: &[u64]) {
-    io::print_decimal(STDOUT_FILENO, site);
-    let mut i = 0;
-    while i < numbers.len() {
-        io::write_all(STDOUT_FILENO, b",");
-        io::print_decimal(STDOUT_FILENO, numbers[i]);
-        i += 1;
-    }
-    io::write_all(STDOUT_FILENO, b"\n");
-}
-
-// The line of names, and a line for each site; no more sites than the list has room for.
-fn print_bill(sites: u64, list: &[u64]) {
-    io::write_all(
-        STDOUT_FILENO,
-        b"site,consumption,tg,settled,cut,generation,pc,pg,p2,p3,total,reason\n",
-    );
-    let most = list.len() / 11;
-    let mut k = 0;
-    while k < most {
-        if sites <= k as u64 {
-            return;
-        }
-        let at = 11 * k;
-        print_site(k as u64 + 1, &list[at..at + 11]);
-        k += 1;
-    }
-}
 
 struct Input {
     size: usize,
@@ -77,21 +37,32 @@ fn read_input(buf: &mut [u8]) -> Input
     }
 }
 
+// Puts the answer to a file at the start of text, and answers its size.
+fn answer(file: &[u8], text: &mut [u8; park_text::ROOM]) -> usize
+    ensures text { λ r. ⌜ Starts (answerTo (now (file .entry))) (now (text .entry)) r (now (text .exit)) ⌝ }
+    ensures within { λ r. ⌜ Counts r (now (text .exit)) ⌝ }
+{
+    let mut list = [0u64; park_text::NUMBERS];
+    let reply = park_bill::bill_park(file, &mut list);
+    let ParkReply::Billed(sites) = reply else {
+        let ParkReply::Refused(r) = reply else {
+            return 0;
+        };
+        return park_text::refusal(r, text);
+    };
+    park_text::bill(sites, &list, text)
+}
+
 fn main() {
     let mut buffer = [0u8; ROOM];
-    let mut list = [0u64; NUMBERS];
     let input = read_input(&mut buffer);
     if input.failed {
         os::fail(b"parkbill: standard input");
         return;
     }
-    let reply = park_bill::bill_park(&buffer[..input.size], &mut list);
-    let ParkReply::Billed(sites) = reply else {
-        let ParkReply::Refused(r) = reply else {
-            return;
-        };
-        print_refusal(r);
-        return;
-    };
-    print_bill(sites, &list);
+    let mut text = [0u8; park_text::ROOM];
+    let size = answer(&buffer[..input.size], &mut text);
+    if !io::write_all(STDOUT_FILENO, &text[..size]) {
+        os::fail(b"parkbill: standard output");
+    }
 }

@@ -1,8 +1,9 @@
--- Park Alder and the starred cases (01, "Park Alder, and its neighbours"), as entries of one list, and four parks that show what the
--- condition of the loss balance is for. `holds` says of each entry whether it is so; `Says` is what it then means. `all-cases` of
+-- Park Alder and the starred cases (01, "Park Alder, and its neighbours"), as entries of one list, with what is printed for Alder
+-- and for one file that is refused, and four parks that show what the condition of the loss balance is for. `holds` says of each entry whether it is so; `Says` is what it then means. `all-cases` of
 -- CaseTest is the proof of `AllCases`.
 -- Assumes nothing.
 use Prim.Native.Nat.{ℕ, _/_, _%_}
+use Prim.Native.String.{String}
 use mathlib.Core.Path.{_≡_}
 use mathlib.Core.Bool.{Bool, true, false, not, _&&_, _||_}
 use mathlib.Core.List.{List, [], _∷_, _++_}
@@ -15,9 +16,11 @@ use Rattle.park_format.specs.Accepted.{Every}
 use Rattle.park_format.specs.declared.line.Line.{Line}
 use Rattle.park_charge.specs.Flow.{tangent}
 use Rattle.park_charge.specs.Charge.{lossCharge, reason, surcharge}
 use Rattle.park_bill.specs.Sums.{allOf}
 use Rattle.park_bill.specs.Reply.{billsOf, inReply, siteOutcome}
 use Rattle.park_bill.specs.Balance.{added, AllZero, Measured, networkEnergy}
+use Rattle.park_text.specs.Answer.{answerTo}
+use Rattle.park_text.specs.Ascii.{ascii}
 
 -- a park file from its numbers, in file order
 abbrev pub two : ℕ → List ℕ
@@ -34,32 +37,40 @@ site power flag q p h = four power ++ (flag ∷ []) ++ two q ++ two p ++ two h
 abbrev pub line : ℕ → ℕ → ℕ → ℕ → ℕ → ℕ → ℕ → ℕ → List ℕ
 line from to mark d wp wq wg wn = (from ∷ to ∷ mark ∷ []) ++ two d ++ four wp ++ four wq ++ four wg ++ four wn
 
--- Park Alder, with a given second line
-abbrev pub alderWith : List ℕ → List ℕ
-alderWith second =
+-- Park Alder, with a given discount of site 2, first and second line
+abbrev pub alderWith : ℕ → List ℕ → List ℕ → List ℕ
+alderWith discount first second =
     (80 ∷ 82 ∷ 75 ∷ [])
     ++ two 1
     ++ (4 ∷ 2 ∷ 3 ∷ [])
     ++ four 500000
     ++ two 200
     ++ site 400 1 50 0 0
-    ++ site 100 0 0 0 100
-    ++ line 0 1 1 669 40000 30000 0 0
+    ++ site 100 0 0 0 discount
+    ++ first
     ++ second
     ++ line 0 2 0 669 5000 0 0 0
 
+-- with its own first line and discount
+abbrev pub alderBy : List ℕ → List ℕ
+alderBy second = alderWith 100 (line 0 1 1 669 40000 30000 0 0) second
+
 abbrev pub alder : List ℕ
-alder = alderWith (line 1 2 1 700 10000 4000 0 0)
+alder = alderBy (line 1 2 1 700 10000 4000 0 0)
 
 abbrev pub alderCut : List ℕ
-alderCut = alderWith (line 1 2 1 700 10000 40000 0 0)
+alderCut = alderBy (line 1 2 1 700 10000 40000 0 0)
 
 abbrev pub alderUnmetered : List ℕ
-alderUnmetered = alderWith (line 1 2 0 700 10000 0 0 0)
+alderUnmetered = alderBy (line 1 2 0 700 10000 0 0 0)
 
 -- site 1 sends back more than the park takes in, and no meter tells its reactive energy
 abbrev pub alderBack : List ℕ
-alderBack = alderWith (line 1 0 0 5000 10000000 0 0 0)
+alderBack = alderBy (line 1 0 0 5000 10000000 0 0 0)
+
+-- site 2 with h 1,001 and line 1 with D 0
+abbrev pub alderRefused : List ℕ
+alderRefused = alderWith 1001 (line 0 1 1 0 40000 30000 0 0) (line 1 2 1 700 10000 4000 0 0)
 
 -- number j of site k, as bill_site replies it, and that number added over the sites
 abbrev pub numbers : List ℕ → ℕ → ℕ → ℕ
@@ -71,6 +82,8 @@ total file j = added (parkOf file) (numbers file) j
 pub data Case : Type 0 where
   -- a file, the numbers of all its sites, the settled energy and the energy at the network
   wholeBill : List ℕ → List ℕ → ℕ → ℕ → Case
+  -- a file and what is printed for it
+  printed : List ℕ → String → Case
   -- WQ0, WP0 and tg
   tangentCase : ℕ → ℕ → ℕ → Case
   -- tg, Pc and P2
@@ -83,7 +96,7 @@ pub data Case : Type 0 where
   -- whether no site is cut
   balanceCase : List ℕ → ℤ → Bool → Bool → Bool → Case
 
--- 01's cases (a WP0 of 0 with and without WQ0), and the four parks
+-- 01's cases (a WP0 of 0 with and without WQ0), two answers, and the four parks
 abbrev pub cases : List Case
 cases =
     wholeBill alder (26000 ∷ 867 ∷ 17270000 ∷ 0 ∷ 100000 ∷ 863500 ∷ 334500 ∷ 328725 ∷ 0 ∷ 1526725 ∷ 0 ∷ 8000 ∷ 533 ∷ 5476000 ∷ 0 ∷ 0 ∷ 273800 ∷ 0 ∷ 21928 ∷ 27380 ∷ 268348 ∷ 0 ∷ []) 22746000 22746000
@@ -98,6 +111,8 @@ cases =
     ∷ chargeCase 5000000 1
     ∷ reasonCase 999 9999 2
     ∷ reasonCase 1000 0 0
+    ∷ printed alder "site,consumption,tg,settled,cut,generation,pc,pg,p2,p3,total,reason\n1,26000,867,17270000,0,100000,863500,334500,328725,0,1526725,0\n2,8000,533,5476000,0,0,273800,0,21928,27380,268348,0\n"
+    ∷ printed alderRefused "refused,13,2\n"
     ∷ balanceCase alder (pos 22746000) true true true
     ∷ balanceCase alderCut (pos 22746000) true true false
     ∷ balanceCase alderUnmetered (pos 22746000) false false true
@@ -133,6 +148,7 @@ holds (wholeBill file list settled network) =
     accepts (refusal file)
     && (same (billsOf (parkOf file) (parkOf file .header .sites)) list
     && (eqb (total file 3) settled && equal (networkEnergy (parkOf file)) (pos network)))
+holds (printed file text) = same (answerTo file) (ascii text)
 holds (tangentCase wq wp tg) = eqb (tangent wp wq) tg
 holds (surchargeCase tg pc p2) = eqb (surcharge pc tg) p2
 holds (chargeCase product pc) = eqb (lossCharge product 1) pc
@@ -155,6 +171,7 @@ Says (wholeBill file list settled network) =
     IsAccepted file
     × ((billsOf (parkOf file) (parkOf file .header .sites) ≡ list)
     × ((total file 3 ≡ settled) × (networkEnergy (parkOf file) ≡ pos network)))
+Says (printed file text) = answerTo file ≡ ascii text
 Says (tangentCase wq wp tg) = tangent wp wq ≡ tg
 Says (surchargeCase tg pc p2) = surcharge pc tg ≡ p2
 Says (chargeCase product pc) = lossCharge product 1 ≡ pc

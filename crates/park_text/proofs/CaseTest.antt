@@ -17,16 +17,19 @@ use Rattle.park_charge.specs.Flow.{inflow, outflow, tangent}
 use Rattle.park_charge.specs.Losses.{cut, settled}
 use Rattle.park_charge.specs.Generation.{computedGeneration}
 use Rattle.park_charge.specs.Charge.{computedCharge, discount, lossCharge, reason, surcharge}
 use Rattle.park_bill.specs.Sums.{allOf, overSites, sumBy, EachSite}
 use Rattle.park_bill.specs.Bill.{consumptionOf, generationCharge, generationOf, tangentOf, weightedSum}
 use Rattle.park_bill.specs.Reply.{billsOf, refusalWith}
-use Rattle.park_bill.specs.Cases.{accepts, agree, AllCases, Case, cases, equal, holds, measuredLine, numbers, same, Says, Whether}
-use Rattle.park_bill.specs.Cases.Case.{balanceCase, chargeCase, reasonCase, surchargeCase, tangentCase, wholeBill}
+use Rattle.park_text.specs.Answer.{answerTo}
+use Rattle.park_text.specs.Ascii.{ascii}
+use Rattle.park_text.specs.Text.{billText, decimal, digitsWithin, fieldsText, namesText, refusalText, siteText, sitesText}
+use Rattle.park_text.specs.Cases.{accepts, agree, AllCases, Case, cases, equal, holds, measuredLine, numbers, same, Says, Whether}
+use Rattle.park_text.specs.Cases.Case.{balanceCase, chargeCase, printed, reasonCase, surchargeCase, tangentCase, wholeBill}
 use Rattle.park_bill.proofs.Balances.{over-cong, over-none, over-zero}
 
 -- the test
 all-hold : allOf holds cases ≡ true
-unfolding holds headerOf lineAt linesOf listOf parkOf select siteAt sitesOf each firstBroken headerRules inputRules lineRules mostHours refusal rulesOf siteRules rounded inflow outflow tangent cut settled computedGeneration computedCharge discount lossCharge reason surcharge allOf sumBy consumptionOf generationCharge generationOf tangentOf weightedSum billsOf refusalWith overSites
+unfolding holds headerOf lineAt linesOf listOf parkOf select siteAt sitesOf each firstBroken headerRules inputRules lineRules mostHours refusal rulesOf siteRules rounded inflow outflow tangent cut settled computedGeneration computedCharge discount lossCharge reason surcharge allOf sumBy consumptionOf generationCharge generationOf tangentOf weightedSum billsOf refusalWith overSites answerTo decimal digitsWithin billText namesText sitesText siteText fieldsText refusalText
 all-hold = refl
 
 -- what each part of the test means
@@ -112,6 +115,7 @@ entry (wholeBill file list settled network) e =
     let b = and-true _ _ (a .1) in
     let c = and-true _ _ (b .1) in
     (accepts-is (refusal file) (a .0), (same-is _ list (b .0), (eqb-true _ settled (c .0), equal-is _ (pos network) (c .1))))
+entry (printed file text) e = same-is _ (ascii text) e
 entry (tangentCase wq wp tg) e = eqb-true _ tg e
 entry (surchargeCase tg pc p2) e = eqb-true _ p2 e
 entry (chargeCase product pc) e = eqb-true _ pc e

@@ -1,0 +1,10 @@
+-- The codes of a text's characters.
+-- Assumes nothing.
+use Prim.Native.Nat.{ℕ}
+use Prim.Native.Char.{code}
+use Prim.Native.String.{String, [] as none, _∷_ as _then_}
+use mathlib.Core.List.{List, [], _∷_}
+
+abbrev pub ascii : String → List ℕ
+ascii none = []
+ascii (c then rest) = code c ∷ ascii rest
