@@ -5,13 +5,15 @@ use native.Mathlib.Numerals.{add-one}
 use native.Mathlib.Omega.{arith}
 use mathlib.Core.Path.{_≡_, sym, ap, subst, _∙_}
 use mathlib.Core.List.{List, [], _∷_, _++_}
+use mathlib.Core.Option.{none}
 use lib.ListN.{length}
 use Rattle.park_bill.specs.Totals.{SmallLine}
 use Rattle.park_format.specs.declared.line.Line.{Line}
 use Rattle.park_format.specs.Park.{headerOf, siteAt, sitesOf, lineAt, linesOf, parkOf, listOf}
-use Rattle.park_format.specs.Rules.{IsAccepted}
+use Rattle.park_format.specs.Rules.{IsAccepted, lineRules}
 use Rattle.park_format.specs.Accepted.{Every, KeptHeader, KeptSite, KeptLine}
-use Rattle.park_format.proofs.Accepted.{kept}
+use Rattle.park_format.proofs.Accepted.{each-kept, kept, kept-line}
+use Rattle.park_format.proofs.Rules.{upTo}
 use Rattle.park_format.proofs.Lists.{every-at, length-listOf}
 use Rattle.park_bill.proofs.Walks.{kept-small}
 
@@ -64,17 +66,36 @@ pub record Turn (file : List ℕ) (i : ℕ) (l : Line) : Type 0 where
   pub few : length (linesOf file (headerOf file .sites) i) ≤ 64
   pub more : linesOf file (headerOf file .sites) (i + 1) ≡ linesOf file (headerOf file .sites) i ++ (l ∷ [])
 
-pub turn : (file : List ℕ) → IsAccepted file → (at lines i : ℕ) (l : Line) → at ≡ 14 + 11 * headerOf file .sites → lines ≡ headerOf file .lines → i < lines → l ≡ lineAt file (at + 21 * i) → Turn file i l
-turn file accepted at lines i l start count h read =
-    let is : l ≡ lineAt file (14 + 11 * headerOf file .sites + 21 * i) = read ∙ ap (λ (a : ℕ). lineAt file (a + 21 * i)) start in
-    let keeps : KeptLine (headerOf file .sites) l = subst (KeptLine (headerOf file .sites)) (sym is) (line-kept file accepted i (omega arith)) in
-    let header = header-kept file accepted in
-    record {
-      to = omega arith;
-      from = omega arith;
-      fromSite = keeps .from;
-      small = kept-small (headerOf file .sites) l keeps;
-      earlier = so-far file accepted i (omega arith);
-      few = few file accepted i (omega arith);
-      more = lines-next file (headerOf file .sites) i ∙ ap (λ (x : Line). linesOf file (headerOf file .sites) i ++ (x ∷ [])) (sym is);
-    }
+-- how many lines there are so far
+few-lines : (file : List ℕ) (s i : ℕ) → i ≤ 64 → length (linesOf file s i) ≤ 64
+unfolding linesOf
+few-lines file s i h = omega (arith, length-listOf (λ (j : ℕ). lineAt file (14 + 11 * s + 21 * j)) i)
+
+-- by what the rules say of the header, of the line and of the lines before it
+module _ (file : List ℕ) (header : KeptHeader (length file) (headerOf file)) (at lines i : ℕ) (l : Line) (start : at ≡ 14 + 11 * headerOf file .sites) (count : lines ≡ headerOf file .lines) (h : i < lines) (read : l ≡ lineAt file (at + 21 * i)) where
+  line-is : l ≡ lineAt file (14 + 11 * headerOf file .sites + 21 * i)
+  line-is = read ∙ ap (λ (a : ℕ). lineAt file (a + 21 * i)) start
+
+  turn-kept : KeptLine (headerOf file .sites) l → Every (KeptLine (headerOf file .sites)) (linesOf file (headerOf file .sites) i) → Turn file i l
+  turn-kept keeps before =
+      record {
+        to = omega arith;
+        from = omega arith;
+        fromSite = keeps .from;
+        small = kept-small (headerOf file .sites) l keeps;
+        earlier = before;
+        few = few-lines file (headerOf file .sites) i (omega arith);
+        more = lines-next file (headerOf file .sites) i ∙ ap (λ (x : Line). linesOf file (headerOf file .sites) i ++ (x ∷ [])) (sym line-is);
+      }
+
+  -- of an accepted file
+  pub turn : IsAccepted file → Turn file i l
+  turn accepted =
+      turn-kept (subst (KeptLine (headerOf file .sites)) (sym line-is) (line-kept file accepted i (omega arith))) (so-far file accepted i (omega arith))
+
+  -- of a file whose lines are accepted so far
+  pub turn-so-far : KeptLine (headerOf file .sites) l → upTo (lineRules (headerOf file .sites)) (λ (j : ℕ). lineAt file (14 + 11 * headerOf file .sites + 21 * j)) i ≡ none → Turn file i l
+  unfolding linesOf
+  turn-so-far keeps e =
+      turn-kept keeps
+      (each-kept (lineRules (headerOf file .sites)) (KeptLine (headerOf file .sites)) (kept-line (headerOf file .sites)) 1 (listOf (λ (j : ℕ). lineAt file (14 + 11 * headerOf file .sites + 21 * j)) i) e)

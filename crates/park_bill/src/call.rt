@@ -5,21 +5,24 @@ use crate::totals::Flow;
 use crate::totals::Inputs;
 use crate::totals::Transits;
 use crate::walk;
+use park_format::fed;
 use park_format::header::Header;
 use park_format::line::Line;
+use park_format::rule;
 use park_format::rule::Refusal;
 use park_format::rule::Verdict;
 use park_format::site::Site;
 ghost use mathlib.Core.Path.{_≡_};
 ghost use mathlib.Core.List.{_++_};
+ghost use mathlib.Core.Option.{none};
 ghost use Prim.Native.Nat.{_+_, _*_, _≤_};
 ghost use lib.ListN.{length, drop};
 ghost use Rattle.park_format.specs.Park.{headerOf, parkOf};
-ghost use Rattle.park_format.specs.Rules.{IsAccepted};
+ghost use Rattle.park_format.specs.Rules.{IsAccepted, headRefusal, refusal, refusalOf, zeroOrAbove};
 ghost use Rattle.park_bill.specs.Bill.{bill};
-ghost use Rattle.park_bill.specs.Walk.{billsFrom, IsSite, Summed};
+ghost use Rattle.park_bill.specs.Walk.{billsFrom, orElse, IsSite};
 ghost use Rattle.park_bill.specs.Balance.{InBalance, RepliesInBalance};
-ghost use Rattle.park_bill.specs.Reply.{listAfter, parkAnswer, parkOutcome, siteAnswer, siteOutcome};
+ghost use Rattle.park_bill.specs.Reply.{listAfter, parkAnswer, parkOutcome, siteAnswer, siteOutcome, unlessRefused};
 
 pub enum SiteReply {
     Billed(Bill),
@@ -56,44 +59,22 @@ fn bill_at(
     )
 }
 
-// Writes the bills of some sites of an accepted file, those after the site first, each into its own part of a list, from the sums of
-// the inputs and the transits of every site.
-fn write_bills(
+// Checks the lines of a file whose head is accepted, then the inputs of its sites, and last the call's own rule, whose verdict comes
+// with it. If none is broken it writes the bills of some sites, those after the site first, each into its own part of a list. Each line
+// is read once, checked, and added up at both its ends; index 0 takes the network's end. All of it is one function, since sums that are
+// handed to another are copied.
+fn fill(
     file: &[u8],
     header: Header,
-    ins: [Inputs; 17],
-    outs: [Transits; 17],
+    call: Verdict,
     first: usize,
     count: usize,
     list: &mut [u64],
-)
-    requires accepted { ⌜ (IsAccepted (now file)) × (header ≡ headerOf (now file)) ⌝ }
-    requires summed { ⌜ Summed ins outs (parkOf (now file) .lines) ⌝ }
-    requires sites { ⌜ first + count ≤ header .sites ⌝ }
-    requires room { ⌜ 11 * count ≤ length (now list) ⌝ }
-    ensures { λ _. ⌜ now (list .exit) ≡ billsFrom (parkOf (now (file .entry))) first count ++ drop (11 * count) (now (list .entry)) ⌝ }
-{
-    let before = walk::before_transits(ins, outs, header.sites);
-    let flows = walk::after_transits(file, header, before);
-    let mut k = 0;
-    while k < count {
-        let at = 11 * k;
-        let next = first + k + 1;
-        let input = ins[next];
-        let transit = outs[next];
-        let flow = flows[next];
-        bill_at(file, header, next, input, transit, flow).write(&mut list[at..at + 11]);
-        k += 1;
-    }
-}
-
-// Writes the bills of some sites of an accepted file, those after the site first, each into its own part of a list. Each line is added
-// up at both its ends; index 0 takes the network's end. The sums are handed on rather than returned, which would copy them.
-fn fill(file: &[u8], header: Header, first: usize, count: usize, list: &mut [u64])
-    requires accepted { ⌜ (IsAccepted (now file)) × (header ≡ headerOf (now file)) ⌝ }
-    requires sites { ⌜ first + count ≤ header .sites ⌝ }
-    requires room { ⌜ 11 * count ≤ length (now list) ⌝ }
-    ensures { λ _. ⌜ now (list .exit) ≡ billsFrom (parkOf (now (file .entry))) first count ++ drop (11 * count) (now (list .entry)) ⌝ }
+) -> Verdict
+    requires head { ⌜ (headRefusal (now file) ≡ none) × (header ≡ headerOf (now file)) ⌝ }
+    requires fits { ⌜ (refusalOf call ≡ none → (first + count ≤ header .sites) × (11 * count ≤ length (now list))) ⌝ }
+    ensures reply { λ r. ⌜ refusalOf r ≡ orElse (refusal (now (file .entry))) (refusalOf call) ⌝ }
+    ensures written { λ r. ⌜ now (list .exit) ≡ unlessRefused (refusalOf r) (billsFrom (parkOf (now (file .entry))) first count ++ drop (11 * count) (now (list .entry))) (now (list .entry)) ⌝ }
 {
     let at = Header::LEN + Site::LEN * (header.sites as usize);
     let lines = header.lines as usize;
@@ -101,9 +82,15 @@ fn fill(file: &[u8], header: Header, first: usize, count: usize, list: &mut [u64
     let no_transit = Transits::none();
     let mut ins = [no_input; 17];
     let mut outs = [no_transit; 17];
+    let mut fed: u16 = 0;
     let mut i = 0;
     while i < lines {
         let line = Line::read(file, at + Line::LEN * i);
+        let verdict = line.check(header.sites, i as u32 + 1);
+        if let Verdict::Refused(r) = verdict {
+            return Verdict::Refused(r);
+        }
+        fed = fed::with(fed, line.to);
         let to = line.to as usize;
         let input = ins[to];
         ins[to] = input.with(line);
@@ -112,7 +99,42 @@ fn fill(file: &[u8], header: Header, first: usize, count: usize, list: &mut [u64
         outs[from] = transit.with(line);
         i += 1;
     }
-    write_bills(file, header, ins, outs, first, count, list);
+    let last = fed::unfed(fed, header.sites, call);
+    if let Verdict::Refused(r) = last {
+        return Verdict::Refused(r);
+    }
+    let sites = header.sites as usize;
+    let no_flow = Flow::none();
+    let mut starts = [no_flow; 17];
+    let mut j = 1;
+    while j <= sites {
+        let input = ins[j];
+        let transit = outs[j];
+        starts[j] = Flow::start(input, transit);
+        j += 1;
+    }
+    let flows = walk::after_transits(file, header, starts);
+    let mut k = 0;
+    while k < count {
+        let stretch = 11 * k;
+        let next = first + k + 1;
+        let input = ins[next];
+        let transit = outs[next];
+        let flow = flows[next];
+        bill_at(file, header, next, input, transit, flow).write(&mut list[stretch..stretch + 11]);
+        k += 1;
+    }
+    Verdict::Accepted
+}
+
+// Whether a site that is asked for is not one of the park.
+fn is_missing(site: u64, sites: u8) -> bool
+    ensures { λ r. ⌜ r ≡ zeroOrAbove sites site ⌝ }
+{
+    if site == 0 {
+        return true;
+    }
+    (sites as u64) < site
 }
 
 // Bills one site, counted from 1. It takes any number for a site, and bytes of any number.
@@ -120,24 +142,17 @@ pub fn bill_site(file: &[u8], site: u64) -> SiteReply
     ensures reply { λ r. ⌜ siteAnswer r ≡ siteOutcome (now (file .entry)) site ⌝ }
     ensures balance { λ r. ⌜ RepliesInBalance (now (file .entry)) ⌝ }
 {
-    if let Verdict::Refused(r) = park_format::check(file) {
+    if let Verdict::Refused(r) = park_format::check_head(file) {
         return SiteReply::Refused(r);
     }
     let header = Header::read(file);
-    if site == 0 {
-        return SiteReply::Refused(Refusal {
-            number: 20,
-            place: 0,
-        });
-    }
-    if (header.sites as u64) < site {
-        return SiteReply::Refused(Refusal {
-            number: 20,
-            place: 0,
-        });
-    }
+    let missing = is_missing(site, header.sites);
+    let first = if missing { 0 } else { site as usize - 1 };
+    let call = rule::first(missing, 20, 0, Verdict::Accepted);
     let mut list = [0u64; 11];
-    fill(file, header, site as usize - 1, 1, &mut list);
+    if let Verdict::Refused(r) = fill(file, header, call, first, 1, &mut list) {
+        return SiteReply::Refused(r);
+    }
     SiteReply::Billed(Bill::read(&list))
 }
 
@@ -147,16 +162,14 @@ pub fn bill_park(file: &[u8], list: &mut [u64]) -> ParkReply
     ensures written { λ r. ⌜ now (list .exit) ≡ listAfter (now (file .entry)) (now (list .entry)) ⌝ }
     ensures balance { λ r. ⌜ InBalance (now (file .entry)) (now (list .entry)) (now (list .exit)) ⌝ }
 {
-    if let Verdict::Refused(r) = park_format::check(file) {
+    if let Verdict::Refused(r) = park_format::check_head(file) {
         return ParkReply::Refused(r);
     }
     let header = Header::read(file);
-    if list.len() < 11 * (header.sites as usize) {
-        return ParkReply::Refused(Refusal {
-            number: 21,
-            place: 0,
-        });
+    let sites = header.sites as usize;
+    let call = rule::first(list.len() < 11 * sites, 21, 0, Verdict::Accepted);
+    if let Verdict::Refused(r) = fill(file, header, call, 0, sites, list) {
+        return ParkReply::Refused(r);
     }
-    fill(file, header, 0, header.sites as usize, list);
     ParkReply::Billed(header.sites as u64)
 }

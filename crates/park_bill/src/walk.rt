@@ -1,33 +1,12 @@
-// The walk over the lines: once for the sums of every site, and once more for what needs the tangents.
-// Each array has a place for the network, 0, and one for each of 16 sites.
+// The second walk over the lines, for what needs the tangents. The array has a place for the network, 0, and one for each of 16 sites.
 use crate::totals::Flow;
-use crate::totals::Inputs;
-use crate::totals::Transits;
 use park_format::header::Header;
 use park_format::line::Line;
 use park_format::site::Site;
 ghost use mathlib.Core.Path.{_≡_};
 ghost use Rattle.park_format.specs.Park.{headerOf, parkOf};
 ghost use Rattle.park_format.specs.Rules.{IsAccepted};
-ghost use Rattle.park_bill.specs.Walk.{FlowsAfter, WithoutTransits, RoomForTangents, FlowsBefore};
-
-// The flows of the sites before any transit: their tangents, and the losses of their inputs. The network has none.
-pub fn before_transits(ins: [Inputs; 17], outs: [Transits; 17], sites: u8) -> [Flow; 17]
-    requires { ⌜ RoomForTangents ins outs sites ⌝ }
-    ensures { λ r. ⌜ FlowsBefore r ins outs sites ⌝ }
-{
-    let last = sites as usize;
-    let no_flow = Flow::none();
-    let mut flows = [no_flow; 17];
-    let mut k = 1;
-    while k <= last {
-        let input = ins[k];
-        let transit = outs[k];
-        flows[k] = Flow::start(input, transit);
-        k += 1;
-    }
-    flows
-}
+ghost use Rattle.park_bill.specs.Walk.{FlowsAfter, WithoutTransits};
 
 // The flows of the sites of an accepted file after all transits, each at the tangent of the site that it leaves.
 pub fn after_transits(file: &[u8], header: Header, before: [Flow; 17]) -> [Flow; 17]

@@ -10,8 +10,8 @@ use mathlib.Core.Option.{none}
 use lib.Dec.{eqb, ltb, leb}
 use lib.ListN.{length}
 use borrow.Author.Tests.{eqb-true, eqb-false, ltb-false, leb-false, not-false, ne-eqb, eq-eqb}
-use Rattle.park_format.specs.Park.{parkOf, siteAt, sitesOf, lineAt, linesOf, inputs}
-use Rattle.park_format.specs.Rules.{Row, firstBroken, headerRules, siteRules, lineRules, inputRules, each, rulesOf, refusal, wrongDevice, withoutMeter, measuresReactive, measuresGenerated, measuresNight, isEmpty, parkMark, sizeOf, mostHours, endAbove, bothNetwork, backwards}
+use Rattle.park_format.specs.Park.{headerOf, parkOf, siteAt, sitesOf, lineAt, linesOf, inputs}
+use Rattle.park_format.specs.Rules.{Row, firstBroken, headerRules, siteRules, lineRules, inputRules, each, headRefusal, rulesOf, refusal, wrongDevice, withoutMeter, measuresReactive, measuresGenerated, measuresNight, isEmpty, parkMark, sizeOf, mostHours, endAbove, bothNetwork, backwards}
 use Rattle.park_format.specs.Rules.Row.{rule}
 use Rattle.park_format.specs.Accepted.{KeptHeader, KeptSite, KeptLine, Every, Guarantee}
 use Rattle.park_format.specs.declared.header.Header.{Header}
@@ -117,7 +117,7 @@ kept-line s k l e =
 
 module _ {ℓ} {A : Type ℓ} (g : ℕ → A → List Row) where
   -- what one record's rules guarantee, of each record
-  each-kept : (P : A → Type 0) → ((k : ℕ) (x : A) → firstBroken (g k x) ≡ none → P x) → (k : ℕ) (xs : List A) → firstBroken (each g k xs) ≡ none → Every P xs
+  pub each-kept : (P : A → Type 0) → ((k : ℕ) (x : A) → firstBroken (g k x) ≡ none → P x) → (k : ℕ) (xs : List A) → firstBroken (each g k xs) ≡ none → Every P xs
   unfolding each
   each-kept P keeps k [] e = tt
   each-kept P keeps k (x ∷ xs) e =
@@ -132,6 +132,15 @@ fed-from lines k zero (x ∷ xs) e h =
 fed-from lines k (suc i) (x ∷ xs) e h =
     rw (add-suc, ← suc-add)
     (fed-from lines (suc k) i xs (first-none (inputRules lines k x) (each (inputRules lines) (suc k) xs) e .1) (le-of-suc-le-suc h))
+
+-- a file whose head is accepted keeps its rules
+pub head-kept : (file : List ℕ) → headRefusal file ≡ none → (14 ≤ length file) × KeptHeader (length file) (headerOf file)
+unfolding headRefusal parkOf
+head-kept file e =
+    let p = parkOf file in
+    let both = first-none (rule 1 0 (ltb (length file) 14) ∷ headerRules (length file) (p .header)) (each siteRules 1 (p .sites)) e in
+    let start = first-none (rule 1 0 (ltb (length file) 14) ∷ []) (headerRules (length file) (p .header)) (both .0) in
+    (ltb-false (length file) 14 (whole (rule 1 0 (ltb (length file) 14) ∷ []) (start .0) .0), kept-header (length file) (p .header) (start .1))
 
 -- an accepted file keeps every rule
 pub kept : Guarantee

@@ -4,19 +4,20 @@ use Prim.Native.Nat.{ℕ, zero, suc, _+_, _*_, _≤_, _<_}
 use native.Mathlib.Nat.{le-of-lt, le-refl}
 use native.Mathlib.Numerals.{add-one}
 use native.Mathlib.Omega.{arith}
-use mathlib.Core.Path.{_≡_, refl, sym, _∙_}
-use mathlib.Core.Bool.{Bool, true, false, cond}
-use mathlib.Core.List.{List, _∷_, _++_}
+use mathlib.Core.Path.{_≡_, refl, sym, ap, _∙_}
+use mathlib.Core.Bool.{Bool, true, false, cond, not, _&&_, _||_}
+use mathlib.Core.List.{List, [], _∷_, _++_, append-assoc}
 use mathlib.Core.Option.{Option, none, some}
-use lib.Dec.{ltb}
+use lib.Dec.{eqb, ltb}
 use lib.ListN.{length}
 use borrow.Author.Tests.{lt-ltb, le-ltb, ltb-true, ltb-false, not-true, not-false}
-use Rattle.park_format.specs.Park.{headerOf, siteAt, sitesOf, linesOf, parkOf, inputs}
-use Rattle.park_format.specs.Rules.{Row, firstBroken, headerRules, siteRules, lineRules, inputRules, each, rulesOf, refusal, isEmpty}
+use Rattle.park_format.specs.Park.{headerOf, siteAt, sitesOf, linesOf, parkOf, inputs, select}
+use Rattle.park_format.specs.Rules.{Row, firstBroken, headerRules, siteRules, lineRules, inputRules, each, rulesOf, headRefusal, refusal, isEmpty}
 use Rattle.park_format.specs.Rules.Row.{rule}
 use Rattle.park_format.specs.Set.{has, Lowest, IsFed}
 use Rattle.park_format.specs.declared.header.Header.{Header}
 use Rattle.park_format.specs.declared.line.Line.{Line}
+use Rattle.park_format.proofs.Lists.{select-append, isEmpty-append}
 use Rattle.park_format.proofs.Rules.{first-append, first-stays, upTo, upTo-zero, upTo-next, upTo-stays}
 
 -- the table of a file with a given header, part by part
@@ -32,38 +33,55 @@ lines-part file h = each (lineRules (h .sites)) 1 (linesOf file (h .sites) (h .l
 abbrev inputs-part : List ℕ → Header → List Row
 inputs-part file h = each (inputRules (linesOf file (h .sites) (h .lines))) 1 (sitesOf file (h .sites))
 
-table : (file : List ℕ) (h : Header) → h ≡ headerOf file → refusal file ≡ firstBroken ((rule 1 0 (ltb (length file) 14) ∷ header-part file h) ++ (sites-part file h ++ (lines-part file h ++ inputs-part file h)))
-unfolding refusal rulesOf parkOf
-table file h e = rw e
+head-table : (file : List ℕ) (h : Header) → h ≡ headerOf file → headRefusal file ≡ firstBroken ((rule 1 0 (ltb (length file) 14) ∷ header-part file h) ++ sites-part file h)
+unfolding headRefusal parkOf
+head-table file h e = rw e
 
-pub too-short : (file : List ℕ) → length file < 14 → some (1, 0) ≡ refusal file
+table : (file : List ℕ) (h : Header) → h ≡ headerOf file → refusal file ≡ firstBroken (((rule 1 0 (ltb (length file) 14) ∷ header-part file h) ++ sites-part file h) ++ (lines-part file h ++ inputs-part file h))
+unfolding refusal rulesOf parkOf
+table file h e = rw e (ap firstBroken (sym (append-assoc (rule 1 0 (ltb (length file) 14) ∷ header-part file (headerOf file)) (sites-part file (headerOf file)) (lines-part file (headerOf file) ++ inputs-part file (headerOf file)))))
+
+pub too-short : (file : List ℕ) → length file < 14 → some (1, 0) ≡ headRefusal file
 unfolding firstBroken
-too-short file h = sym (table file (headerOf file) refl ∙ rw (lt-ltb (length file) 14 h))
+too-short file h = sym (head-table file (headerOf file) refl ∙ rw (lt-ltb (length file) 14 h))
 
 module _ (file : List ℕ) (h : Header) (read : h ≡ headerOf file) (long : 14 ≤ length file) where
   header-first : firstBroken (rule 1 0 (ltb (length file) 14) ∷ header-part file h) ≡ firstBroken (header-part file h)
   unfolding firstBroken
   header-first = rw (le-ltb (length file) 14 long)
 
-  pub header-refused : {r : ℕ × ℕ} → some r ≡ firstBroken (header-part file h) → some r ≡ refusal file
-  header-refused e = sym (table file h read ∙ first-stays (rule 1 0 (ltb (length file) 14) ∷ header-part file h) _ (header-first ∙ sym e))
+  pub header-refused : {r : ℕ × ℕ} → some r ≡ firstBroken (header-part file h) → some r ≡ headRefusal file
+  header-refused e = sym (head-table file h read ∙ first-stays (rule 1 0 (ltb (length file) 14) ∷ header-part file h) _ (header-first ∙ sym e))
 
-  module _ (header : none ≡ firstBroken (header-part file h)) where
-    after-header : refusal file ≡ firstBroken (sites-part file h ++ (lines-part file h ++ inputs-part file h))
-    after-header = table file h read ∙ first-append (rule 1 0 (ltb (length file) 14) ∷ header-part file h) _ (header-first ∙ sym header)
+  pub sites-decide : none ≡ firstBroken (header-part file h) → firstBroken (sites-part file h) ≡ headRefusal file
+  sites-decide header = sym (head-table file h read ∙ first-append (rule 1 0 (ltb (length file) 14) ∷ header-part file h) _ (header-first ∙ sym header))
 
-    pub sites-refused : {r : ℕ × ℕ} → some r ≡ firstBroken (sites-part file h) → some r ≡ refusal file
-    sites-refused e = sym (after-header ∙ first-stays (sites-part file h) _ (sym e))
+pub head-refused : (file : List ℕ) {r : ℕ × ℕ} → some r ≡ headRefusal file → some r ≡ refusal file
+head-refused file e = sym (table file (headerOf file) refl ∙ first-stays _ _ (sym (head-table file (headerOf file) refl) ∙ sym e))
 
-    module _ (sites : none ≡ firstBroken (sites-part file h)) where
-      after-sites : refusal file ≡ firstBroken (lines-part file h ++ inputs-part file h)
-      after-sites = after-header ∙ first-append (sites-part file h) _ (sym sites)
+-- once the head is accepted, the lines and then the inputs decide
+module _ (file : List ℕ) (h : Header) (read : h ≡ headerOf file) (head : headRefusal file ≡ none) where
+  after-head : refusal file ≡ firstBroken (lines-part file h ++ inputs-part file h)
+  after-head = table file h read ∙ first-append _ _ (sym (head-table file h read) ∙ head)
 
-      pub lines-refused : {r : ℕ × ℕ} → some r ≡ firstBroken (lines-part file h) → some r ≡ refusal file
-      lines-refused e = sym (after-sites ∙ first-stays (lines-part file h) _ (sym e))
+  pub lines-refused : {r : ℕ × ℕ} → some r ≡ firstBroken (lines-part file h) → some r ≡ refusal file
+  lines-refused e = sym (after-head ∙ first-stays (lines-part file h) _ (sym e))
 
-      pub inputs-decide : none ≡ firstBroken (lines-part file h) → firstBroken (inputs-part file h) ≡ refusal file
-      inputs-decide lines = sym (after-sites ∙ first-append (lines-part file h) _ (sym lines))
+  pub inputs-decide : none ≡ firstBroken (lines-part file h) → firstBroken (inputs-part file h) ≡ refusal file
+  inputs-decide lines = sym (after-head ∙ first-append (lines-part file h) _ (sym lines))
+
+-- one line more, and the site that it goes to
+pub fed-more : (set more : ℕ) (l : Line) (lines : List Line) → IsFed set lines → ((j : ℕ) → has more j ≡ (has set j || eqb (l .to) (suc j))) → IsFed more (lines ++ (l ∷ []))
+unfolding select
+fed-more set more l lines fed gives j =
+    gives j
+    ∙ rw (fed j, select-append, isEmpty-append) (joined (isEmpty (inputs (suc j) lines)) (eqb (l .to) (suc j)))
+  where
+    joined : (a b : Bool) → (not a || b) ≡ not (a && isEmpty (cond b (l ∷ []) []))
+    joined true true = refl
+    joined true false = refl
+    joined false true = refl
+    joined false false = refl
 
 -- 19 by the set of fed sites: the sites before the lowest that is missing have an input, and that one has none
 module _ (file : List ℕ) (lines : List Line) (set low : ℕ) (fed : IsFed set lines) (lowest : Lowest set low) where

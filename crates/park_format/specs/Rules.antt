@@ -163,6 +163,12 @@ rulesOf bytes p =
     ++ (each (lineRules (p .header .sites)) 1 (p .lines)
     ++ each (inputRules (p .lines)) 1 (p .sites)))
 
+-- before the lines: the first broken row of header and length, and of the sites
+unfoldable pub headRefusal : List ℕ → Option (ℕ × ℕ)
+headRefusal file =
+    let p = parkOf file in
+    firstBroken ((startRules (length file) ++ headerRules (length file) (p .header)) ++ each siteRules 1 (p .sites))
+
 -- the refusal of a file: its first broken row
 unfoldable pub refusal : List ℕ → Option (ℕ × ℕ)
 refusal file = firstBroken (rulesOf (length file) (parkOf file))

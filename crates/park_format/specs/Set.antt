@@ -1,11 +1,11 @@
 -- The sites with an input line as a 16-bit set (01, rule 19 and its form): site k is in it where digit k - 1, counted from the lowest, is 1.
 -- Assumes nothing.
-use Prim.Native.Nat.{ℕ, zero, suc, _/_, _%_, _≤_, _<_}
+use Prim.Native.Nat.{ℕ, zero, suc, _+_, _/_, _%_, _≤_, _<_}
 use mathlib.Core.Path.{_≡_}
-use mathlib.Core.Bool.{Bool, true, false, not}
+use mathlib.Core.Bool.{Bool, true, false, cond, not}
 use mathlib.Core.List.{List}
 use mathlib.Core.Option.{Option, none, some}
-use lib.Dec.{eqb}
+use lib.Dec.{eqb, ltb}
 use Rattle.park_format.specs.Park.{inputs}
 use Rattle.park_format.specs.Rules.{isEmpty}
 use Rattle.park_format.specs.declared.line.Line.{Line}
@@ -21,6 +21,12 @@ pub record Lowest (set r : ℕ) : Type 0 where
   pub below : (j : ℕ) → j < r → has set j ≡ true
   pub here : r < 16 → has set r ≡ false
   pub most : r ≤ 16
+
+-- the lowest missing site, if it is one of s, is refused by 19; else the rest decides
+pub record Unfed (set s : ℕ) (refused rest : Option (ℕ × ℕ)) : Type 0 where
+  pub low : ℕ
+  pub lowest : Lowest set low
+  pub decides : refused ≡ cond (ltb low s) (some (19, low + 1)) rest
 
 -- the sites with an input line
 abbrev pub IsFed : ℕ → List Line → Type 0

@@ -2,7 +2,6 @@
 use crate::fed;
 use crate::header::Header;
 use crate::line::Line;
-use crate::rule;
 use crate::rule::Refusal;
 use crate::rule::Verdict;
 use crate::site::Site;
@@ -10,7 +9,7 @@ ghost use mathlib.Core.Path.{_≡_};
 ghost use Prim.Native.Nat.{_+_, _*_, _≤_};
 ghost use lib.ListN.{length};
 ghost use Rattle.park_format.specs.Park.{sitesOf, linesOf};
-ghost use Rattle.park_format.specs.Rules.{refusalOf, refusal, firstBroken, each, siteRules, lineRules};
+ghost use Rattle.park_format.specs.Rules.{refusalOf, headRefusal, refusal, firstBroken, each, siteRules, lineRules};
 ghost use Rattle.park_format.specs.Set.{Walks};
 
 // What the walk over the lines finds: a broken rule, or the sites that have an input.
@@ -56,9 +55,9 @@ fn check_lines(file: &[u8], sites: u8, lines: usize) -> Walked
     Walked::Fed(fed)
 }
 
-// Whether a file keeps the rules, or the first that it breaks and where. It takes bytes of any number.
-pub fn check(file: &[u8]) -> Verdict
-    ensures { λ r. ⌜ refusalOf r ≡ refusal (now (file .entry)) ⌝ }
+// The rules that come before the lines: those of the header, of the length and of the sites. It takes bytes of any number.
+pub fn check_head(file: &[u8]) -> Verdict
+    ensures { λ r. ⌜ refusalOf r ≡ headRefusal (now (file .entry)) ⌝ }
 {
     if file.len() < Header::LEN {
         return Verdict::Refused(Refusal {
@@ -70,20 +69,19 @@ pub fn check(file: &[u8]) -> Verdict
     if let Verdict::Refused(r) = header.check(file.len()) {
         return Verdict::Refused(r);
     }
-    let sites = header.sites;
-    if let Verdict::Refused(r) = check_sites(file, sites as usize) {
+    check_sites(file, header.sites as usize)
+}
+
+// Whether a file keeps the rules, or the first that it breaks and where. It takes bytes of any number.
+pub fn check(file: &[u8]) -> Verdict
+    ensures { λ r. ⌜ refusalOf r ≡ refusal (now (file .entry)) ⌝ }
+{
+    if let Verdict::Refused(r) = check_head(file) {
         return Verdict::Refused(r);
     }
-    match check_lines(file, sites, header.lines as usize) {
+    let header = Header::read(file);
+    match check_lines(file, header.sites, header.lines as usize) {
         Walked::Refused(r) => Verdict::Refused(r),
-        Walked::Fed(fed) => {
-            let fed_first = fed::before_missing(fed);
-            rule::first(
-                fed_first < sites as u32,
-                19,
-                fed_first + 1,
-                Verdict::Accepted,
-            )
-        }
+        Walked::Fed(fed) => fed::unfed(fed, header.sites, Verdict::Accepted),
     }
 }

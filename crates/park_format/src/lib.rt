@@ -1,5 +1,5 @@
 // The park file: its records, its rules, and the check of a whole file.
-mod fed;
+pub mod fed;
 pub mod file;
 pub mod header;
 pub mod line;
@@ -8,3 +8,4 @@ pub mod rule;
 pub mod site;
 
 pub use file::check;
+pub use file::check_head;

@@ -17,7 +17,7 @@ use Rattle.park_format.specs.Rules.Row.{rule}
 use Rattle.park_format.specs.declared.header.Header.{Header}
 use Rattle.park_format.proofs.Accepted.{kept, kept-header}
 use Rattle.park_format.proofs.Rules.{first-append, first-stays}
-use Rattle.park_format.proofs.Verdict.{header-refused}
+use Rattle.park_format.proofs.Verdict.{head-refused, header-refused}
 use Rattle.park_bill.specs.Reply.{answer, billsOf, unlessRefused}
 use Rattle.park_bill.proofs.Refusals.{call-allows, file-first}
 use Rattle.park_bill.proofs.Slices.{length-bills}
@@ -95,5 +95,5 @@ cut-answer bytes more file = by (ltb bytes (length file)) refl
         let size = length-take-le bytes file (omega arith) in
         let r = long-refused (headerOf file) in
         refused-answer (take bytes file) (r .0 .0) (r .0 .1)
-        (sym (header-refused (take bytes file) (headerOf file) (header-cut bytes (omega arith) file) (omega arith) (r .1 (length (take bytes file)) (omega arith))))
-        ∙ sym (refused-answer file (r .0 .0) (r .0 .1) (sym (header-refused file (headerOf file) refl (omega arith) (r .1 (length file) (omega arith)))))
+        (sym (head-refused (take bytes file) (header-refused (take bytes file) (headerOf file) (header-cut bytes (omega arith) file) (omega arith) (r .1 (length (take bytes file)) (omega arith)))))
+        ∙ sym (refused-answer file (r .0 .0) (r .0 .1) (sym (head-refused file (header-refused file (headerOf file) refl (omega arith) (r .1 (length file) (omega arith))))))

@@ -1,21 +1,24 @@
-use Prim.Native.Nat.{ℕ, _*_, _≤_, _<_}
+use Prim.Native.Nat.{ℕ, _*_}
 use mathlib.Core.Logic.{_⊎_, inr}
 use mathlib.Core.Path.{_≡_, sym, ap, subst, _∙_}
+use mathlib.Core.Bool.{Bool, true, false, cond}
 use mathlib.Core.List.{List, _++_}
-use mathlib.Core.Option.{Option}
+use mathlib.Core.Option.{Option, none, some}
 use native.Mathlib.Omega.{arith}
-use borrow.Author.Tests.{lt-ltb, le-ltb}
+use borrow.Author.Tests.{ltb-false}
 use denote.Ref.{now}
+use lib.Dec.{ltb}
 use lib.ListN.{length, drop}
 use Rattle.park_format.specs.Park.{parkOf}
-use Rattle.park_format.specs.Rules.{IsAccepted, refusalOf}
+use Rattle.park_format.specs.Rules.{headRefusal, refusal, refusalOf}
 use Rattle.park_format.specs.declared.header.Header.{Header}
-use Rattle.park_bill.specs.Reply.{answer, billsOf, listAfter, unlessRefused}
-use Rattle.park_bill.specs.Walk.{billsFrom}
+use Rattle.park_format.proofs.Accepted.{head-kept}
+use Rattle.park_format.proofs.Verdict.{head-refused}
+use Rattle.park_bill.specs.Reply.{answer, billsOf, listAfter, parkRefusal, unlessRefused}
+use Rattle.park_bill.specs.Walk.{billsFrom, orElse}
 use Rattle.park_bill.specs.Balance.{InBalance}
 use Rattle.park_bill.proofs.Outcomes.{loss-balance}
-use Rattle.park_bill.proofs.Parks.{header-kept}
-use Rattle.park_bill.proofs.Refusals.{file-first, call-refuses, call-allows}
+use Rattle.park_bill.proofs.Refusals.{file-first, not-broken, with-call}
 use Rattle.park_bill.proofs.Slices.{from-start}
 use borrow.Author.Needs.{needs}
 use Rattle.park_bill.proofs.call.bill_park.Statement.{statement}
@@ -32,20 +35,28 @@ left file before refused = unlessRefused refused (billsOf (parkOf file) (parkOf 
 in-balance : (file before : List ℕ) {after : List ℕ} → after ≡ listAfter file before → InBalance file before after
 in-balance file before e = subst (InBalance file before) (sym e) (loss-balance .0 file before)
 
--- once the header is read: the file is accepted
+-- once the header is read: the head is accepted
 module _ (c : tie.After-read) where
   abbrev file-of : List ℕ
   file-of = now (c .before .before .before .before .before .before .args .file)
 
-  accepted : IsAccepted file-of
-  accepted = sym (c .before .before .before .check .ensures) ∙ ap refusalOf (c .before .enum-told .given .1)
+  head : headRefusal file-of ≡ none
+  head = sym (c .before .before .before .check-head .ensures) ∙ ap refusalOf (c .before .enum-told .given .1)
 
   sites-are : c .read .result .sites ≡ parkOf file-of .header .sites
   unfolding parkOf
   sites-are = ap (λ (h : Header). h .sites) (c .read .ensures)
 
-check-requires : tie.Need-check-requires
-check-requires c κs = search needs
+-- and once the call's rule is looked at: its verdict
+module _ (c : tie.After-first) where
+  call-is : refusalOf (c .first .result) ≡ cond (ltb (length (now (c .before .before .before .before .before .before .before .before .args .list))) (11 * parkOf (file-of (c .before .before)) .header .sites)) (some (21, 0)) none
+  call-is = c .first .ensures ∙ ap (λ (n : ℕ). cond (ltb (length (now (c .before .before .before .before .before .before .before .before .args .list))) (11 * n)) (some (21, 0)) none) (sites-are (c .before .before))
+
+  call-refusal : parkRefusal (file-of (c .before .before)) (now (c .before .before .before .before .before .before .before .before .args .list)) ≡ orElse (refusal (file-of (c .before .before))) (refusalOf (c .first .result))
+  call-refusal = with-call (file-of (c .before .before)) 21 0 _ ∙ ap (orElse (refusal (file-of (c .before .before)))) (sym call-is)
+
+check-head-requires : tie.Need-check-head-requires
+check-head-requires c κs = search needs
 
 enum-known-r : tie.Need-enum-known-r
 enum-known-r c = search needs
@@ -53,7 +64,7 @@ enum-known-r c = search needs
 returns : tie.Need-returns
 returns c =
     let s = c .before .before .before .before .before .before .args in
-    let e = file-first (now (s .file)) _ (sym (ap refusalOf (c .before .r .given .1)) ∙ c .before .before .before .check .ensures) in
+    let e = file-first (now (s .file)) _ (head-refused (now (s .file)) (sym (ap refusalOf (c .before .r .given .1)) ∙ c .before .before .before .check-head .ensures)) in
     let list = sym (ap (left (now (s .file)) (now (s .list))) e) in
     (sym (ap (outcome (now (s .file))) e), (list, in-balance (now (s .file)) (now (s .list)) list))
 
@@ -61,44 +72,59 @@ enum-told : tie.Need-enum-told
 enum-told c = search needs
 
 read-requires : tie.Need-read-requires
-read-requires c κs =
-    let h = header-kept (now (c .before .before .before .before .before .args .file)) (sym (c .before .before .check .ensures) ∙ ap refusalOf (c .enum-told .given .1)) in
-    omega arith
+read-requires c κs = head-kept (now (c .before .before .before .before .before .args .file)) (sym (c .before .before .check-head .ensures) ∙ ap refusalOf (c .enum-told .given .1)) .0
 
-cast-if1 : tie.Need-cast-if1
-cast-if1 c = search needs
+cast-sites : tie.Need-cast-sites
+cast-sites c = search needs
 
-mul-if1 : tie.Need-mul-if1
-mul-if1 c = search needs
+mul-first : tie.Need-mul-first
+mul-first c = search needs
 
-returns-2 : tie.Need-returns-2
-returns-2 c =
-    let s = c .before .before .before .before .before .before .before .before .args in
-    let short : length (now (s .list)) < 11 * parkOf (now (s .file)) .header .sites = omega (arith, sites-are (c .before .before)) in
-    let e = call-refuses (now (s .file)) 21 0 _ (accepted (c .before .before)) (lt-ltb _ _ short) in
-    let list = sym (ap (left (now (s .file)) (now (s .list))) e) in
-    (sym (ap (outcome (now (s .file))) e), (list, in-balance (now (s .file)) (now (s .list)) list))
-
-cast-fill : tie.Need-cast-fill
-cast-fill c = search needs
+first-requires : tie.Need-first-requires
+first-requires c κs = search needs
 
 fill-requires : tie.Need-fill-requires
-fill-requires c κs = ((accepted (c .before .before .before .before), c .before .before .before .before .read .ensures), (omega arith, omega (arith, c .before .before .if1 .left)))
+fill-requires c κs = (
+  (head (c .before .before .before), c .before .before .before .read .ensures),
+  λ e. let long = ltb-false _ _ (not-broken _ (21, 0) (sym (c .before .first .ensures) ∙ e)) in
+      (omega arith, long),
+)
 
-cast-t14 : tie.Need-cast-t14
-cast-t14 c = search needs
+enum-known-r-2 : tie.Need-enum-known-r-2
+enum-known-r-2 c = search needs
 
 same-length : tie.Need-same-length
 same-length c = search needs
 
+returns-2 : tie.Need-returns-2
+returns-2 c =
+    let s = c .before .before .before .before .before .before .before .before .before .before .before .before .before .before .before .args in
+    let refused = ap refusalOf (c .before .r2 .given .1) in
+    let e = call-refusal (c .before .before .before .before .before .before .before) ∙ sym (c .before .before .before .before .before .fill .ensures .0) ∙ refused in
+    let list =
+    c .before .before .before .before .before .fill .ensures .1
+    ∙ ap (λ (o : Option (ℕ × ℕ)). unlessRefused o (billsFrom (parkOf (now (s .file))) 0 (c .before .before .before .before .before .before .before .before .before .read .result .sites) ++ drop (11 * c .before .before .before .before .before .before .before .before .before .read .result .sites) (now (s .list))) (now (s .list))) refused
+    ∙ sym (ap (left (now (s .file)) (now (s .list))) e) in
+    (sym (ap (outcome (now (s .file))) e), (list, in-balance (now (s .file)) (now (s .list)) list))
+
+enum-told-2 : tie.Need-enum-told-2
+enum-told-2 c = search needs
+
+cast-t16 : tie.Need-cast-t16
+cast-t16 c = search needs
+
+same-length-2 : tie.Need-same-length-2
+same-length-2 c = search needs
+
 returns-3 : tie.Need-returns-3
 returns-3 c =
-    let s = c .before .before .before .before .before .before .before .before .before .before .before .before .before .before .args in
-    let same = sites-are (c .before .before .before .before .before .before .before .before) in
-    let long : 11 * parkOf (now (s .file)) .header .sites ≤ length (now (s .list)) = omega (arith, same, c .before .before .before .before .before .before .if1 .left) in
-    let e = call-allows (now (s .file)) 21 0 _ (accepted (c .before .before .before .before .before .before .before .before)) (le-ltb _ _ long) in
+    let s = c .before .before .before .before .before .before .before .before .before .before .before .before .before .before .before .args in
+    let same = sites-are (c .before .before .before .before .before .before .before .before .before) in
+    let accepted = ap refusalOf (c .before .enum-told2 .given .1) in
+    let e = call-refusal (c .before .before .before .before .before .before .before) ∙ sym (c .before .before .before .before .before .fill .ensures .0) ∙ accepted in
     let list =
-    c .before .before .before .fill .ensures
+    c .before .before .before .before .before .fill .ensures .1
+    ∙ ap (λ (o : Option (ℕ × ℕ)). unlessRefused o (billsFrom (parkOf (now (s .file))) 0 (c .before .before .before .before .before .before .before .before .before .read .result .sites) ++ drop (11 * c .before .before .before .before .before .before .before .before .before .read .result .sites) (now (s .list))) (now (s .list))) accepted
     ∙ ap (λ (n : ℕ). billsFrom (parkOf (now (s .file))) 0 n ++ drop (11 * n) (now (s .list))) same
     ∙ ap (λ (bills : List ℕ). bills ++ drop (11 * parkOf (now (s .file)) .header .sites) (now (s .list))) (from-start (parkOf (now (s .file))) _)
     ∙ sym (ap (left (now (s .file)) (now (s .list))) e) in
@@ -108,16 +134,19 @@ pub bill-park-spec : {M : Type 1} → statement M
 bill-park-spec =
     tie.close
     (tie.spec
-    check-requires
+    check-head-requires
     enum-known-r
     returns
     enum-told
     read-requires
-    cast-if1
-    mul-if1
-    returns-2
-    cast-fill
+    cast-sites
+    mul-first
+    first-requires
     fill-requires
-    cast-t14
+    enum-known-r-2
     same-length
+    returns-2
+    enum-told-2
+    cast-t16
+    same-length-2
     returns-3)

@@ -48,7 +48,7 @@ flow-of c k = getD (c .before .before .before .before .before .before .args .bef
 turn-of : (c : Read) → Turn (file-of c) (c .before .before .loop .i) (c .read .result)
 turn-of c =
     let l = c .before .before .loop in
-    turn (file-of c) (c .before .before .before .before .before .before .pre .0 .0) _ _ (l .i) (c .read .result) (l .inv .1 .0) (l .inv .1 .1 .0) (c .before .loop-test .taken) (c .read .ensures)
+    turn (file-of c) (header-kept (file-of c) (c .before .before .before .before .before .before .pre .0 .0)) _ _ (l .i) (c .read .result) (l .inv .1 .0) (l .inv .1 .1 .0) (c .before .loop-test .taken) (c .read .ensures) (c .before .before .before .before .before .before .pre .0 .0)
 
 -- the count of sites that the contract speaks of is the file's
 of-header : (c : Read) (k : ℕ) → k ≤ headerOf (file-of c) .sites → k ≤ c .before .before .before .before .before .before .args .header .sites

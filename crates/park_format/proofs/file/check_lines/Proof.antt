@@ -1,20 +1,18 @@
-use Prim.Native.Nat.{ℕ, suc, _+_, _*_, _-_, _≤_}
+use Prim.Native.Nat.{ℕ, _+_, _*_, _-_, _≤_}
 use native.Mathlib.Nat.{le-antisymm}
 use native.Mathlib.Omega.{arith}
 use native.Mathlib.Numerals.{add-one}
 use mathlib.Core.Path.{_≡_, refl, sym, ap, _∙_}
-use mathlib.Core.Bool.{Bool, true, false, not, _||_, _&&_, cond}
-use mathlib.Core.List.{List, [], _∷_, _++_}
+use mathlib.Core.List.{List}
 use mathlib.Core.Option.{none}
-use lib.Dec.{eqb}
 use denote.Ref.{now}
 use borrow.Author.Needs.{needs}
-use Rattle.park_format.specs.Park.{linesOf, lineAt, listOf, select, inputs}
-use Rattle.park_format.specs.Rules.{lineRules, refusalOf, isEmpty}
+use Rattle.park_format.specs.Park.{linesOf, lineAt, listOf, select}
+use Rattle.park_format.specs.Rules.{lineRules, refusalOf}
 use Rattle.park_format.specs.declared.line.Line.{Line}
 use Rattle.park_format.specs.Set.{IsFed, has}
 use Rattle.park_format.proofs.Rules.{upTo, upTo-zero, upTo-turn, upTo-refused}
-use Rattle.park_format.proofs.Lists.{select-append, isEmpty-append}
+use Rattle.park_format.proofs.Verdict.{fed-more}
 use Rattle.park_format.proofs.Bits.{has-zero}
 use Rattle.park_format.proofs.Accepted.{kept-line}
 use Rattle.park_format.proofs.file.check_lines.Statement.{statement}
@@ -22,19 +20,6 @@ use Rattle.park_format.proofs.file.check_lines.Tie as tie
 
 abbrev reads : List ℕ → ℕ → ℕ → Line
 reads file s k = lineAt file (14 + 11 * s + 21 * k)
-
--- one line more, and the site that it goes to
-fed-more : (set more : ℕ) (l : Line) (lines : List Line) → IsFed set lines → ((j : ℕ) → has more j ≡ (has set j || eqb (l .to) (suc j))) → IsFed more (lines ++ (l ∷ []))
-unfolding select
-fed-more set more l lines fed gives j =
-    gives j
-    ∙ rw (fed j, select-append, isEmpty-append) (joined (isEmpty (inputs (suc j) lines)) (eqb (l .to) (suc j)))
-  where
-    joined : (a b : Bool) → (not a || b) ≡ not (a && isEmpty (cond b (l ∷ []) []))
-    joined true true = refl
-    joined true false = refl
-    joined false true = refl
-    joined false false = refl
 
 abbrev Inv-loop : tie.InvT-loop
 Inv-loop file sites lines at fed₀ i₀ fed i = (i ≤ lines) × ((at ≡ 14 + 11 * sites) × ((upTo (lineRules sites) (reads file sites) i ≡ none) × IsFed fed (linesOf file sites i)))
