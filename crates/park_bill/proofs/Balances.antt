@@ -11,7 +11,7 @@ use native.Mathlib.Decide.{ℕ-discrete}
 use lib.Dec.{eqb, eqb·zero-suc, lit<}
 use lib.IntN.{ℤ, pos, _+ℤ_, _-ℤ_, negℤ, natAbs, +ℤ-assoc, +ℤ-comm, +ℤ-idl, +ℤ-idr, +ℤ-invl, +ℤ-negℤ-cancel}
 use borrow.Author.Tests.{eq-eqb, ne-eqb}
-use Rattle.park_format.specs.Park.{Park, inputs, transits, select}
+use Rattle.park_format.specs.Park.{Park, inputs, transits}
 use Rattle.park_format.specs.Rules.{measuresReactive}
 use Rattle.park_format.specs.Accepted.{Every, KeptLine}
 use Rattle.park_format.specs.declared.line.Line.{Line}

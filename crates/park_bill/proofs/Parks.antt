@@ -26,6 +26,11 @@ unfolding listOf
 every-listOf P f zero h = tt
 every-listOf P f (suc n) h = every-snoc P (listOf f n) (f n) (every-listOf P f n (λ i l. h i (omega arith))) (h n (omega arith))
 
+-- how many lines there are so far
+pub few-lines : (file : List ℕ) (s i : ℕ) → i ≤ 64 → length (linesOf file s i) ≤ 64
+unfolding linesOf
+few-lines file s i h = omega (arith, length-listOf (λ (j : ℕ). lineAt file (14 + 11 * s + 21 * j)) i)
+
 module _ (file : List ℕ) (accepted : IsAccepted file) where
   pub header-kept : KeptHeader (length file) (headerOf file)
   unfolding parkOf
@@ -45,12 +50,6 @@ module _ (file : List ℕ) (accepted : IsAccepted file) where
     unfolding linesOf
     so-far = every-listOf (KeptLine (headerOf file .sites)) (λ (j : ℕ). lineAt file (14 + 11 * headerOf file .sites + 21 * j)) i (λ j l. line-kept j (omega arith))
 
-    pub few : length (linesOf file (headerOf file .sites) i) ≤ 64
-    unfolding linesOf
-    few =
-        let h = header-kept in
-        omega (arith, length-listOf (λ (j : ℕ). lineAt file (14 + 11 * headerOf file .sites + 21 * j)) i)
-
 -- the lines so far, with one more
 pub lines-next : (file : List ℕ) (s i : ℕ) → linesOf file s (i + 1) ≡ linesOf file s i ++ (lineAt file (14 + 11 * s + 21 * i) ∷ [])
 unfolding linesOf listOf
@@ -65,11 +64,6 @@ pub record Turn (file : List ℕ) (i : ℕ) (l : Line) : Type 0 where
   pub earlier : Every (KeptLine (headerOf file .sites)) (linesOf file (headerOf file .sites) i)
   pub few : length (linesOf file (headerOf file .sites) i) ≤ 64
   pub more : linesOf file (headerOf file .sites) (i + 1) ≡ linesOf file (headerOf file .sites) i ++ (l ∷ [])
-
--- how many lines there are so far
-few-lines : (file : List ℕ) (s i : ℕ) → i ≤ 64 → length (linesOf file s i) ≤ 64
-unfolding linesOf
-few-lines file s i h = omega (arith, length-listOf (λ (j : ℕ). lineAt file (14 + 11 * s + 21 * j)) i)
 
 -- by what the rules say of the header, of the line and of the lines before it
 module _ (file : List ℕ) (header : KeptHeader (length file) (headerOf file)) (at lines i : ℕ) (l : Line) (start : at ≡ 14 + 11 * headerOf file .sites) (count : lines ≡ headerOf file .lines) (h : i < lines) (read : l ≡ lineAt file (at + 21 * i)) where

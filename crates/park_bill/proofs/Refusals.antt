@@ -21,17 +21,6 @@ pub file-first : (file : List ℕ) (last : Row) {r : ℕ × ℕ} → some r ≡ 
 unfolding refusal refusalWith
 file-first file last e = first-stays (rulesOf (length file) (parkOf file)) (last ∷ []) (sym e)
 
-call-last : (file : List ℕ) (n p : ℕ) (b : Bool) → IsAccepted file → refusalWith file (rule n p b) ≡ cond b (some (n, p)) none
-unfolding refusal refusalWith firstBroken
-call-last file n p b e = first-append (rulesOf (length file) (parkOf file)) (rule n p b ∷ []) e
-
-module _ (file : List ℕ) (n p : ℕ) (b : Bool) (accepted : IsAccepted file) where
-  pub call-refuses : b ≡ true → refusalWith file (rule n p b) ≡ some (n, p)
-  call-refuses e = call-last file n p b accepted ∙ ap (λ (t : Bool). cond t (some (n, p)) none) e
-
-  pub call-allows : b ≡ false → refusalWith file (rule n p b) ≡ none
-  call-allows e = call-last file n p b accepted ∙ ap (λ (t : Bool). cond t (some (n, p)) none) e
-
 -- the refusal of a call, by that of the file and that of the call's own rule
 pub with-call : (file : List ℕ) (n p : ℕ) (b : Bool) → refusalWith file (rule n p b) ≡ orElse (refusal file) (cond b (some (n, p)) none)
 unfolding refusal refusalWith firstBroken
@@ -40,6 +29,17 @@ with-call file n p b = by (refusal file) refl
     by : (o : Option (ℕ × ℕ)) → refusal file ≡ o → refusalWith file (rule n p b) ≡ orElse o (cond b (some (n, p)) none)
     by none e = first-append (rulesOf (length file) (parkOf file)) (rule n p b ∷ []) e
     by (some r) e = first-stays (rulesOf (length file) (parkOf file)) (rule n p b ∷ []) e
+
+-- of an accepted file, by the call's own rule alone
+module _ (file : List ℕ) (n p : ℕ) (b : Bool) (accepted : IsAccepted file) where
+  call-last : refusalWith file (rule n p b) ≡ cond b (some (n, p)) none
+  call-last = with-call file n p b ∙ ap (λ (o : Option (ℕ × ℕ)). orElse o (cond b (some (n, p)) none)) accepted
+
+  pub call-refuses : b ≡ true → refusalWith file (rule n p b) ≡ some (n, p)
+  call-refuses e = call-last ∙ ap (λ (t : Bool). cond t (some (n, p)) none) e
+
+  pub call-allows : b ≡ false → refusalWith file (rule n p b) ≡ none
+  call-allows e = call-last ∙ ap (λ (t : Bool). cond t (some (n, p)) none) e
 
 pub first-of : {o : Option (ℕ × ℕ)} {r : ℕ × ℕ} (call : Option (ℕ × ℕ)) → some r ≡ o → some r ≡ orElse o call
 first-of call e = ap (λ (x : Option (ℕ × ℕ)). orElse x call) e

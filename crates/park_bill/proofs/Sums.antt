@@ -1,6 +1,6 @@
 -- Laws of sums over a list: of two lists together, of the values that pass a test, of values that are bounded, and of a count of failures.
 -- Assumes nothing.
-use Prim.Native.Nat.{ℕ, zero, suc, _+_, _*_, _≤_, zero-le}
+use Prim.Native.Nat.{ℕ, suc, _+_, _*_, _≤_, zero-le}
 use native.Mathlib.Numerals.{one-add}
 use native.Mathlib.Nat.{zero-add, mul-suc, add-comm, add-le-add, le-trans, mul-le-mul-left}
 use native.Mathlib.Omega.{arith}

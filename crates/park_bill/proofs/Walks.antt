@@ -1,6 +1,6 @@
 -- Laws of the walk: a store into an array of sums is one line more, and the sums of an accepted park have room for it.
 -- Assumes nothing.
-use Prim.Native.Nat.{ℕ, zero, _+_, _*_, _-_, _≤_, _<_}
+use Prim.Native.Nat.{ℕ, _+_, _*_, _-_, _≤_, _<_}
 use native.Mathlib.Nat.{add-zero, add-assoc, mul-le-mul, le-trans}
 use native.Mathlib.Omega.{arith}
 use mathlib.Core.Path.{_≡_, refl, sym, ap, subst, _∙_}
@@ -21,7 +21,7 @@ use Rattle.park_format.specs.Accepted.{Every, KeptLine}
 use Rattle.park_format.specs.declared.line.Line.{Line}
 use Rattle.park_format.proofs.Lists.{select-append}
 use Rattle.park_charge.specs.Bounds.{inflow-le, outflow-le}
-use Rattle.park_charge.specs.Losses.{settled, cut, settled-is, cut-is, size-is}
+use Rattle.park_charge.specs.Losses.{settled-is, cut-is, size-is}
 use Rattle.park_bill.proofs.Sums.{sumBy-snoc, sum-small, length-select}
 use Rattle.park_bill.proofs.Room.{lacking-bool, when-bool}
 

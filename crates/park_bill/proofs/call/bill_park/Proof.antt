@@ -1,7 +1,7 @@
 use Prim.Native.Nat.{ℕ, _*_}
 use mathlib.Core.Logic.{_⊎_, inr}
 use mathlib.Core.Path.{_≡_, sym, ap, subst, _∙_}
-use mathlib.Core.Bool.{Bool, true, false, cond}
+use mathlib.Core.Bool.{cond}
 use mathlib.Core.List.{List, _++_}
 use mathlib.Core.Option.{Option, none, some}
 use native.Mathlib.Omega.{arith}

@@ -15,7 +15,7 @@ use Rattle.park_bill.specs.declared.totals.Inputs.{Inputs}
 use Rattle.park_bill.specs.declared.totals.Transits.{Transits}
 use Rattle.park_format.specs.Accepted.{KeptLine}
 use Rattle.park_format.specs.Rules.{IsAccepted, firstBroken, lineRules, refusal, refusalOf}
-use Rattle.park_format.specs.Set.{IsFed, Unfed, has}
+use Rattle.park_format.specs.Set.{IsFed, Unfed}
 use Rattle.park_format.specs.declared.header.Header.{Header}
 use Rattle.park_format.specs.declared.line.Line.{Line}
 use Rattle.park_format.specs.Park.{headerOf, inputs, lineAt, linesOf, listOf, parkOf, select, transits}

@@ -4,7 +4,6 @@ use mathlib.Core.Option.{none}
 use denote.Ref.{now}
 use Rattle.park_format.specs.Park.{linesOf}
 use Rattle.park_format.specs.Rules.{headRefusal, refusalOf}
-use Rattle.park_format.specs.Accepted.{KeptHeader}
 use Rattle.park_format.proofs.Accepted.{head-kept}
 use Rattle.park_format.proofs.Verdict.{head-refused, lines-refused, inputs-decide, lowest-unfed}
 use borrow.Author.Needs.{needs}
