@@ -1,15 +1,13 @@
 # make bill FILE=examples/alder.prk    builds what is needed and bills a park file
 # make test                            proves everything from nothing and runs all tests
-# make examples                        the example files alone, with the program as last built
+# make examples                        the example files and the script bill, with the program as last built
 # make self-test                       holds the test program to finding 42 wrong calculators
 # make bench                           times the calls beside plain Rust
 
 .PHONY: bill test examples self-test bench library
 
 bill:
-	@test -n "$(FILE)" || { echo "usage: make bill FILE=examples/alder.prk" >&2; exit 2; }
-	@rt check parkbill >&2
-	@target/bin/parkbill < "$(FILE)"
+	@sh ./bill "$$FILE"
 
 test:
 	@sh tests/run

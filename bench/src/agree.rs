@@ -38,35 +38,55 @@ fn park_billed<C: Calls>(file: &[u8], list_len: usize) -> Outcome {
     Outcome { number, place, sites, numbers }
 }
 
-/// Panics unless both leave the same, in every call, for every file of a set, as it is and damaged.
-pub fn assert_agree(files: &Files, seed: u64) {
+/// Panics unless both leave the same, in every call, for every file of a set: as it is, with a byte
+/// changed, with three changed, cut short, and a byte too long. Gives the numbers that `check` and
+/// the billing calls answered, as bits.
+pub fn assert_agree(files: &Files, seed: u64) -> u32 {
     let mut random = Random::new(seed);
+    let mut numbers = 0;
     for file in files.iter() {
         assert_eq!(park_billed::<Plain>(file, ROOM).number, 0, "accepted");
-        assert_agree_on(file, files.sites);
-        let mut damaged = file.to_vec();
-        let place = random.between(0, file.len() as u64 - 1) as usize;
-        let any = random.next() as u8;
-        damaged[place] = random.pick(&[0, 1, 4, 8, 17, 65, 255, any]);
-        assert_agree_on(&damaged, files.sites);
-        assert_agree_on(&file[..place], files.sites);
+        let cut = random.between(0, file.len() as u64 - 1) as usize;
+        let longer = [file, &[0]].concat();
+        for file in [file, &file[..cut], &longer] {
+            numbers |= assert_agree_on(file, files.sites);
+        }
+        for changes in [1, 3] {
+            let mut damaged = file.to_vec();
+            for _ in 0..changes {
+                damage(&mut random, &mut damaged);
+            }
+            numbers |= assert_agree_on(&damaged, files.sites);
+        }
     }
+    numbers
+}
+
+/// Changes a byte to one that some rule minds.
+fn damage(random: &mut Random, file: &mut [u8]) {
+    let place = random.between(0, file.len() as u64 - 1) as usize;
+    let any = random.next() as u8;
+    file[place] = random.pick(&[0, 1, 4, 8, 17, 65, 255, any]);
 }
 
 /// Every site and one to either side; a list of each length that matters.
-fn assert_agree_on(file: &[u8], sites: u64) {
-    assert_eq!(checked::<Product>(file), checked::<Plain>(file), "check {file:?}");
+fn assert_agree_on(file: &[u8], sites: u64) -> u32 {
+    let mut numbers = 0;
+    let mut assert_alike = |product: Outcome, plain: Outcome, call: &str| {
+        assert_eq!(product, plain, "{call} {file:?}");
+        numbers |= 1 << plain.number;
+    };
+    assert_alike(checked::<Product>(file), checked::<Plain>(file), "check");
     for site in 0..=sites + 1 {
-        let (product, plain) =
-            (site_billed::<Product>(file, site), site_billed::<Plain>(file, site));
-        assert_eq!(product, plain, "bill_site {site} {file:?}");
+        let product = site_billed::<Product>(file, site);
+        assert_alike(product, site_billed::<Plain>(file, site), "bill_site");
     }
     let needed = 11 * sites as usize;
     for list_len in [needed - 1, needed, ROOM] {
-        let (product, plain) =
-            (park_billed::<Product>(file, list_len), park_billed::<Plain>(file, list_len));
-        assert_eq!(product, plain, "bill_park {list_len} {file:?}");
+        let product = park_billed::<Product>(file, list_len);
+        assert_alike(product, park_billed::<Plain>(file, list_len), "bill_park");
     }
+    numbers
 }
 
 /// Panics unless plain leaves the numbers that 01 prints for Park Alder.

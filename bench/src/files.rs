@@ -1,8 +1,9 @@
-//! Sets of accepted park files of one shape, from a seed. Every set has at least 1,024 different
-//! files, so that no branch predictor learns them by heart.
+//! Sets of accepted park files of one shape. Every random set has at least 1,024 different files,
+//! so that no branch predictor learns them by heart.
 
 use crate::random::Random;
 use crate::records::{GENERATED_METER, MONTH_HOURS, NIGHT_METER, REACTIVE_METER};
+use crate::records::{HEADER_BYTES, LINE_BYTES, MOST_EERP, MOST_READING, SITE_BYTES};
 
 /// Park Alder (01, "Park Alder, and its neighbours").
 #[rustfmt::skip]
@@ -14,6 +15,9 @@ pub const ALDER: [u8; 99] = [
     1, 2, 1, 0xBC, 0x02, 0x10, 0x27, 0, 0, 0xA0, 0x0F, 0, 0, 0, 0, 0, 0, 0, 0, 0, 0,
     0, 2, 0, 0x9D, 0x02, 0x88, 0x13, 0, 0, 0, 0, 0, 0, 0, 0, 0, 0, 0, 0, 0, 0,
 ];
+
+/// The meter marks that are allowed (rule 15).
+const MARKS: [u8; 6] = [0, 1, 2, 3, 6, 7];
 
 /// The two ends of Alder's lines.
 const ALDER_ENDS: [(u8, u8); 3] = [(0, 1), (1, 2), (0, 2)];
@@ -28,8 +32,7 @@ pub struct Files {
 
 impl Files {
     /// Random parks with this many sites and lines, of which there are no fewer than sites.
-    pub fn of_shape(seed: u64, sites: u8, lines: u8) -> Files {
-        let mut random = Random::new(seed);
+    pub fn of_shape(mut random: Random, sites: u8, lines: u8) -> Files {
         let mut bytes = Vec::new();
         for _ in 0..file_count(lines) {
             let ends = random_ends(&mut random, sites, lines);
@@ -39,8 +42,7 @@ impl Files {
     }
 
     /// Park Alder first, then parks with its sites and lines and other numbers.
-    pub fn of_alder(seed: u64) -> Files {
-        let mut random = Random::new(seed);
+    pub fn of_alder(mut random: Random) -> Files {
         let mut bytes = ALDER.to_vec();
         for _ in 1..file_count(3) {
             bytes.extend(random_file(&mut random, 2, &ALDER_ENDS));
@@ -48,8 +50,25 @@ impl Files {
         Files::new(bytes, 2, 3)
     }
 
+    /// One site and 64 lines with every number at its most: inputs alone, or one input and
+    /// transits, with each meter mark.
+    pub fn of_most() -> Files {
+        let mut bytes = Vec::new();
+        for (from, to) in [(0, 1), (1, 0)] {
+            for meters in MARKS {
+                bytes.extend(header(1, 1, 64, 2_000_000, MONTH_HOURS[0]));
+                add_site(&mut bytes, 1_000_000, [1, 20_000, 20_000, 1_000]);
+                add_line(&mut bytes, (0, 1), meters, MOST_EERP, [MOST_READING; 4]);
+                for _ in 1..64 {
+                    add_line(&mut bytes, (from, to), meters, MOST_EERP, [MOST_READING; 4]);
+                }
+            }
+        }
+        Files::new(bytes, 1, 64)
+    }
+
     fn new(bytes: Vec<u8>, sites: u8, lines: u8) -> Files {
-        let file_len = bytes.len() / file_count(lines);
+        let file_len = HEADER_BYTES + SITE_BYTES * sites as usize + LINE_BYTES * lines as usize;
         Files { bytes, file_len, sites: sites as u64, lines: lines as u64 }
     }
 
@@ -93,47 +112,67 @@ fn end_below(random: &mut Random, to: u8) -> u8 {
 /// A file that the table accepts, with lines between these ends.
 fn random_file(random: &mut Random, sites: u8, ends: &[(u8, u8)]) -> Vec<u8> {
     let month = random.between(1, 12) as u8;
-    let most_hours = MONTH_HOURS[month as usize - 1] as u64;
-    let mut file = b"PRK".to_vec();
-    file.extend(1u16.to_le_bytes());
-    file.extend([month, sites, ends.len() as u8]);
-    file.extend((random.between(1, 2_000_000) as u32).to_le_bytes());
-    file.extend((random.between(0, most_hours) as u16).to_le_bytes());
+    let price = random.between(1, 2_000_000) as u32;
+    let hours = random.between(0, MONTH_HOURS[month as usize - 1] as u64) as u16;
+    let mut file = header(month, sites, ends.len() as u8, price, hours);
     for _ in 0..sites {
-        add_site(random, &mut file);
+        add_random_site(random, &mut file);
     }
-    let marks = random.pick(&[&[0, 1, 2, 3, 6, 7][..], &[1, 3, 7], &[2, 3, 6, 7], &[6, 7]]);
-    let most = random.pick(&[2_000, 200_000, 10_000_000, 10_000_000]);
+    let marks = random.pick(&[&MARKS[..], &[1, 3, 7], &[2, 3, 6, 7], &[6, 7]]);
+    let most = random.pick(&[2_000, 200_000, MOST_READING, MOST_READING]) as u64;
     for ends in ends {
         let meters = random.pick(marks);
-        add_line(random, &mut file, *ends, meters, most);
+        add_random_line(random, &mut file, *ends, meters, most);
     }
     file
 }
 
-fn add_site(random: &mut Random, file: &mut Vec<u8>) {
-    let flag = random.chance(70);
+fn add_random_site(random: &mut Random, file: &mut Vec<u8>) {
+    let flag = random.chance(70) as u16;
     let power = if random.chance(5) { 15 } else { random.between(16, 1_000_000) };
-    file.extend((power as u32).to_le_bytes());
-    file.push(flag as u8);
-    for _ in 0..2 {
-        let device = if flag { random.between(0, 20_000) } else { 0 };
-        file.extend((device as u16).to_le_bytes());
-    }
-    file.extend((random.between(0, 1_000) as u16).to_le_bytes());
+    let [compensation, motors] = [0; 2].map(|_: u16| flag * random.between(0, 20_000) as u16);
+    let discount = random.between(0, 1_000) as u16;
+    add_site(file, power as u32, [flag, compensation, motors, discount]);
 }
 
-/// A line with readings up to `most`; a reading without its meter is 0.
-fn add_line(random: &mut Random, file: &mut Vec<u8>, ends: (u8, u8), meters: u8, most: u64) {
+/// A line with readings up to `most`.
+fn add_random_line(random: &mut Random, file: &mut Vec<u8>, ends: (u8, u8), meters: u8, most: u64) {
     let active = random.between(0, most);
     let tangent = random.between(0, 1_200);
+    let reactive = (active * tangent / 1_000).min(most);
     let generated = random.between(0, most);
     let night = random.between(0, generated);
-    let metered = |meter: u8, reading: u64| if meters & meter != 0 { reading as u32 } else { 0 };
+    let eerp = random.between(1, MOST_EERP as u64) as u16;
+    let readings = [active, reactive, generated, night].map(|reading| reading as u32);
+    add_line(file, ends, meters, eerp, readings);
+}
+
+fn header(month: u8, sites: u8, lines: u8, price: u32, hours: u16) -> Vec<u8> {
+    let mut file = b"PRK".to_vec();
+    file.extend(1u16.to_le_bytes());
+    file.extend([month, sites, lines]);
+    file.extend(price.to_le_bytes());
+    file.extend(hours.to_le_bytes());
+    file
+}
+
+/// The site with this flag, Q, P and h.
+fn add_site(file: &mut Vec<u8>, power: u32, numbers: [u16; 4]) {
+    let [flag, compensation, motors, discount] = numbers;
+    file.extend(power.to_le_bytes());
+    file.push(flag as u8);
+    for number in [compensation, motors, discount] {
+        file.extend(number.to_le_bytes());
+    }
+}
+
+/// The line with this WP, WQ, WG and WN, of which those without their meter become 0.
+fn add_line(file: &mut Vec<u8>, ends: (u8, u8), meters: u8, eerp: u16, readings: [u32; 4]) {
+    let [active, reactive, generated, night] = readings;
+    let metered = |meter: u8, reading: u32| if meters & meter != 0 { reading } else { 0 };
     file.extend([ends.0, ends.1, meters]);
-    file.extend((random.between(1, 5_000) as u16).to_le_bytes());
-    file.extend((active as u32).to_le_bytes());
-    let reactive = (active * tangent / 1_000).min(most);
+    file.extend(eerp.to_le_bytes());
+    file.extend(active.to_le_bytes());
     file.extend(metered(REACTIVE_METER, reactive).to_le_bytes());
     file.extend(metered(GENERATED_METER, generated).to_le_bytes());
     file.extend(metered(NIGHT_METER, night).to_le_bytes());

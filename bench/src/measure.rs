@@ -1,4 +1,4 @@
-//! Times of product and plain over a set of files, taken in turns.
+//! Times of product and plain over sets of files, taken in turns.
 //!
 //! What is timed touches no heap: the list and the bill stand on the stack, the files were made
 //! before.
@@ -9,8 +9,12 @@ use std::time::Instant;
 use crate::calls::{Bill, Calls, Plain, Product};
 use crate::files::Files;
 
-/// Rounds over a set of files; odd, so that one of them is the median.
-const ROUNDS: usize = 121;
+/// Every case is looked at in so many sweeps over all cases, so that a slow moment of the machine
+/// falls on one sweep of each; odd, as the rounds are, so that one round is the median.
+const SWEEPS: usize = 31;
+
+/// Rounds over a set of files in one sweep.
+const ROUNDS: usize = 21;
 
 /// Which of the three calls is timed.
 #[derive(Clone, Copy)]
@@ -28,27 +32,58 @@ pub struct Times {
     pub ratio: f64,
 }
 
-/// Times a call, in every round product and plain one after the other, each first in turn.
-pub fn measure(files: &Files, call: Call) -> Times {
-    let (mut product, mut plain, mut ratio) = (Vec::new(), Vec::new(), Vec::new());
+/// Times calls over sets of files, each in as many rounds.
+pub fn measure(cases: &[(&Files, Call)]) -> Vec<Times> {
+    let mut rounds = vec![Vec::new(); cases.len()];
+    for sweep in 0..SWEEPS {
+        deeper(sweep, &mut || {
+            for ((files, call), rounds) in cases.iter().zip(&mut rounds) {
+                add_sweep(files, *call, rounds);
+            }
+        });
+    }
+    rounds.iter().map(|rounds| times(rounds)).collect()
+}
+
+/// Runs something so many frames of 256 bytes and more further down the stack: where the stack
+/// begins is another place in every run, and with it what the calls keep there.
+#[inline(never)]
+fn deeper(frames: usize, run: &mut dyn FnMut()) {
+    let frame = [0u8; 256];
+    black_box(&frame);
+    match frames {
+        0 => run(),
+        _ => deeper(frames - 1, run),
+    }
+    black_box(&frame);
+}
+
+/// Adds the rounds of one sweep, in each of them product and plain one after the other, each first
+/// in turn.
+fn add_sweep(files: &Files, call: Call, rounds: &mut Vec<(f64, f64)>) {
     round::<Product>(files, call);
     round::<Plain>(files, call);
     for turn in 0..ROUNDS {
-        let (product_ns, plain_ns) = if turn % 2 == 0 {
-            let first = round::<Product>(files, call);
-            (first, round::<Plain>(files, call))
+        rounds.push(if turn % 2 == 0 {
+            let product = round::<Product>(files, call);
+            (product, round::<Plain>(files, call))
         } else {
-            let first = round::<Plain>(files, call);
-            (round::<Product>(files, call), first)
-        };
-        product.push(product_ns);
-        plain.push(plain_ns);
-        ratio.push(product_ns / plain_ns);
+            let plain = round::<Plain>(files, call);
+            (round::<Product>(files, call), plain)
+        });
     }
-    Times { product: median(product), plain: median(plain), ratio: median(ratio) }
 }
 
-fn median(mut values: Vec<f64>) -> f64 {
+fn times(rounds: &[(f64, f64)]) -> Times {
+    Times {
+        product: median(rounds.iter().map(|(product, _)| *product)),
+        plain: median(rounds.iter().map(|(_, plain)| *plain)),
+        ratio: median(rounds.iter().map(|(product, plain)| product / plain)),
+    }
+}
+
+fn median(values: impl Iterator<Item = f64>) -> f64 {
+    let mut values: Vec<f64> = values.collect();
     values.sort_by(f64::total_cmp);
     values[values.len() / 2]
 }

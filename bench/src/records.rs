@@ -1,7 +1,4 @@
-//! The park file for plain.rs: its three records, and rules 1 to 19 in 01's order.
-//!
-//! Every test is written so that an accepted file takes the same way through it whatever its
-//! meters and ends are: a branch on them would be guessed wrongly half of the time.
+//! The park file for plain.rs: its three records, and what a meter mark says of its line.
 
 pub const HEADER_BYTES: usize = 14;
 pub const SITE_BYTES: usize = 11;
@@ -12,33 +9,23 @@ pub const REACTIVE_METER: u8 = 1;
 pub const GENERATED_METER: u8 = 2;
 pub const NIGHT_METER: u8 = 4;
 
-/// By mark, for WQ, WG and WN: all ones if it lacks the reading's meter, else 0. A table, since LLVM
-/// makes branches of the arithmetic.
-#[rustfmt::skip]
-const LACKING: [[u32; 3]; 8] = [
-    [!0, !0, !0], [0, !0, !0], [!0, 0, !0], [0, 0, !0],
-    [!0, !0, 0], [0, !0, 0], [!0, 0, 0], [0, 0, 0],
-];
-
 /// Most hours a month may state, January to December.
 pub const MONTH_HOURS: [u16; 12] = [744, 696, 743, 720, 744, 720, 744, 744, 720, 745, 720, 744];
 
-/// A refusal: its number in the table, and its place, which is the site or line counted from 1
-/// for 10 to 19, else 0.
-#[derive(Clone, Copy)]
-pub struct Refusal {
-    pub number: u64,
-    pub place: u64,
-}
+/// The most that D and a reading may be.
+pub const MOST_EERP: u16 = 5_000;
+pub const MOST_READING: u32 = 10_000_000;
 
-/// What the header says, and the records behind it.
-pub struct Parts<'a> {
+pub struct Header {
+    pub mark: [u8; 3],
+    pub version: u16,
+    pub month: u8,
+    pub sites: u8,
+    pub lines: u8,
     /// T, kopecks per MWh.
-    pub price: u64,
+    pub price: u32,
     /// t, hours for the computed generation.
-    pub hours: u64,
-    pub sites: &'a [[u8; SITE_BYTES]],
-    pub lines: &'a [[u8; LINE_BYTES]],
+    pub hours: u16,
 }
 
 pub struct Site {
@@ -54,7 +41,6 @@ pub struct Site {
     pub discount: u16,
 }
 
-#[derive(Clone, Copy)]
 pub struct Line {
     /// The ends; 0 is the network.
     pub from: u8,
@@ -71,179 +57,174 @@ pub struct Line {
     pub night: u32,
 }
 
-/// A refusal of header, length or call.
-#[inline(always)]
-pub fn refused<T>(number: u64) -> Result<T, Refusal> {
-    Err(Refusal { number, place: 0 })
-}
+impl Header {
+    /// Decodes a header.
+    #[inline(always)]
+    pub fn read(record: &[u8; HEADER_BYTES]) -> Header {
+        Header {
+            mark: [record[0], record[1], record[2]],
+            version: two(record, 3),
+            month: record[5],
+            sites: record[6],
+            lines: record[7],
+            price: four(record, 8),
+            hours: two(record, 12),
+        }
+    }
 
-/// The parts of a file; rules 1 to 9.
-#[inline(always)]
-pub fn parts(file: &[u8]) -> Result<Parts<'_>, Refusal> {
-    let Some((head, rest)) = file.split_first_chunk::<HEADER_BYTES>() else {
-        return refused(1);
-    };
-    if head[..3] != *b"PRK" {
-        return refused(2);
+    /// The most hours of its month, if there is such a month.
+    #[inline(always)]
+    pub fn most_hours(&self) -> Option<u16> {
+        MONTH_HOURS.get((self.month as usize).wrapping_sub(1)).copied()
     }
-    if u16::from_le_bytes([head[3], head[4]]) != 1 {
-        return refused(3);
+
+    /// How many bytes the site records take.
+    #[inline(always)]
+    pub fn site_bytes(&self) -> usize {
+        SITE_BYTES * self.sites as usize
     }
-    let Some(&most_hours) = MONTH_HOURS.get((head[5] as usize).wrapping_sub(1)) else {
-        return refused(4);
-    };
-    let (sites, lines) = (head[6] as usize, head[7] as usize);
-    let price = u32::from_le_bytes([head[8], head[9], head[10], head[11]]);
-    let hours = u16::from_le_bytes([head[12], head[13]]);
-    if sites == 0 || sites > 16 {
-        return refused(5);
+
+    /// How many bytes the line records take.
+    #[inline(always)]
+    pub fn line_bytes(&self) -> usize {
+        LINE_BYTES * self.lines as usize
     }
-    if lines == 0 || lines > 64 {
-        return refused(6);
-    }
-    if price == 0 || price > 2_000_000 {
-        return refused(7);
-    }
-    if hours > most_hours {
-        return refused(8);
-    }
-    if rest.len() != SITE_BYTES * sites + LINE_BYTES * lines {
-        return refused(9);
-    }
-    let (site_bytes, line_bytes) = rest.split_at(SITE_BYTES * sites);
-    let (sites, lines) = (site_bytes.as_chunks().0, line_bytes.as_chunks().0);
-    Ok(Parts { price: price as u64, hours: hours as u64, sites, lines })
 }
 
 impl Site {
     /// Decodes a site record.
     #[inline(always)]
     pub fn read(record: &[u8; SITE_BYTES]) -> Site {
-        let two = |at: usize| u16::from_le_bytes([record[at], record[at + 1]]);
         Site {
-            power: u32::from_le_bytes([record[0], record[1], record[2], record[3]]),
+            power: four(record, 0),
             flag: record[4],
-            compensation: two(5),
-            motors: two(7),
-            discount: two(9),
+            compensation: two(record, 5),
+            motors: two(record, 7),
+            discount: two(record, 9),
         }
     }
-
-    /// The number of the first of rules 10 to 13 that the site breaks.
-    #[inline(always)]
-    fn broken(&self) -> Option<u64> {
-        if self.power == 0 || self.power > 1_000_000 {
-            return Some(10);
-        }
-        if self.flag > 1 {
-            return Some(11);
-        }
-        // Without the flag the most is 0.
-        if self.compensation.max(self.motors) > 20_000 * self.flag as u16 {
-            return Some(12);
-        }
-        if self.discount > 1_000 {
-            return Some(13);
-        }
-        None
-    }
-}
-
-/// Rules 10 to 13, for each site.
-#[inline(always)]
-pub fn check_sites(sites: &[[u8; SITE_BYTES]]) -> Result<(), Refusal> {
-    for (index, record) in sites.iter().enumerate() {
-        if let Some(number) = Site::read(record).broken() {
-            return Err(Refusal { number, place: index as u64 + 1 });
-        }
-    }
-    Ok(())
 }
 
 impl Line {
     /// Decodes a line record.
     #[inline(always)]
     pub fn read(record: &[u8; LINE_BYTES]) -> Line {
-        let four = |at: usize| {
-            u32::from_le_bytes([record[at], record[at + 1], record[at + 2], record[at + 3]])
-        };
         Line {
             from: record[0],
             to: record[1],
             meters: record[2],
-            eerp: u16::from_le_bytes([record[3], record[4]]),
-            active: four(5),
-            reactive: four(9),
-            generated: four(13),
-            night: four(17),
+            eerp: two(record, 3),
+            active: four(record, 5),
+            reactive: four(record, 9),
+            generated: four(record, 13),
+            night: four(record, 17),
         }
     }
 
-    /// The masks of its mark in `LACKING`.
+    /// WP, WQ, WG and WN.
     #[inline(always)]
-    fn lacking(&self) -> [u32; 3] {
-        LACKING[(self.meters & 7) as usize]
+    pub fn readings(&self) -> [u32; 4] {
+        [self.active, self.reactive, self.generated, self.night]
+    }
+
+    /// WP, WQ, WG and WN as they count at a transit: WP only with a meter of reactive consumption.
+    #[inline(always)]
+    pub fn readings_at_transit(&self) -> [u32; 4] {
+        let mut readings = self.readings();
+        for (reading, mask) in readings.iter_mut().zip(self.mark().at_transit) {
+            *reading &= mask;
+        }
+        readings
+    }
+
+    /// What its mark says.
+    #[inline(always)]
+    pub fn mark(&self) -> &'static Mark {
+        &MARKS[self.meters as usize]
     }
 
     /// WP if the line has no meter of reactive consumption, else 0.
     #[inline(always)]
     pub fn unmetered_active(&self) -> u32 {
-        self.active & self.lacking()[0]
-    }
-
-    /// WP if the line has a meter of reactive consumption, else 0.
-    #[inline(always)]
-    pub fn metered_active(&self) -> u32 {
-        self.active & ((self.meters & REACTIVE_METER) as u32).wrapping_neg()
-    }
-
-    /// The number of the first of rules 14 to 18 that the line breaks.
-    #[inline(always)]
-    fn broken(&self, sites: usize) -> Option<u64> {
-        if self.from as usize > sites || self.to as usize > sites || self.from | self.to == 0 {
-            return Some(14);
-        }
-        // A `to` of 0 wraps round to above every `from`.
-        if self.to.wrapping_sub(1) < self.from {
-            return Some(14);
-        }
-        if self.meters > 7 || self.meters & 6 == NIGHT_METER {
-            return Some(15);
-        }
-        if self.eerp == 0 || self.eerp > 5_000 {
-            return Some(16);
-        }
-        let most = 10_000_000;
-        if self.active > most || self.reactive > most || self.generated > most || self.night > most
-        {
-            return Some(17);
-        }
-        let [reactive, generated, night] = self.lacking();
-        let unmetered = self.reactive & reactive | self.generated & generated | self.night & night;
-        if unmetered != 0 || self.night > self.generated {
-            return Some(18);
-        }
-        None
+        self.active & self.mark().unmetered
     }
 }
 
-/// Rules 14 to 19. Hands on each line that keeps its rules, though a later one may be refused.
 #[inline(always)]
-pub fn check_lines(parts: &Parts, mut each: impl FnMut(&Line)) -> Result<(), Refusal> {
-    let sites = parts.sites.len();
-    // Bit k: site k has an input line.
-    let mut fed = 0u32;
-    for (index, record) in parts.lines.iter().enumerate() {
-        let line = Line::read(record);
-        if let Some(number) = line.broken(sites) {
-            return Err(Refusal { number, place: index as u64 + 1 });
+fn two(record: &[u8], at: usize) -> u16 {
+    u16::from_le_bytes(record[at..at + 2].try_into().expect("two bytes"))
+}
+
+#[inline(always)]
+fn four(record: &[u8], at: usize) -> u32 {
+    u32::from_le_bytes(record[at..at + 4].try_into().expect("four bytes"))
+}
+
+/// What a meter mark says of its line, looked up since LLVM makes branches of the arithmetic; one
+/// cache line.
+#[repr(C, align(64))]
+pub struct Mark {
+    /// The most that WP, WQ and WG may be, 0 without the meter; for WN, which WG limits, all ones,
+    /// or 0 without the meter.
+    pub most: [u32; 4],
+    /// All ones for each of WP, WQ, WG and WN that counts at a transit, else 0.
+    pub at_transit: [u32; 4],
+    /// The most that D may be; 0 for a mark that is not allowed, so that no D is.
+    pub most_eerp: u32,
+    /// All ones without a meter of reactive consumption, else 0.
+    pub unmetered: u32,
+    /// What an input and a transit add to the counts of their site.
+    pub input_count: u64,
+    pub transit_count: u64,
+}
+
+/// Counts are kept in one number: D over the inputs lowest, and these above it.
+pub const ONE_INPUT: u64 = 1 << 32;
+pub const ONE_WITHOUT_GENERATED: u64 = 1 << 40;
+pub const ONE_WITHOUT_NIGHT: u64 = 1 << 48;
+
+/// By mark: 0, 1, 2, 3, 6 and 7 are allowed (rule 15).
+static MARKS: [Mark; 256] = {
+    let mut marks = [const { Mark::not_allowed() }; 256];
+    let mut mark = 0;
+    while mark < 8 {
+        if mark & 6 != NIGHT_METER {
+            marks[mark as usize] = Mark::allowed(mark);
         }
-        fed |= 1 << line.to;
-        each(&line);
+        mark += 1;
     }
-    let before_missing = (!(fed >> 1)).trailing_zeros() as usize;
-    if before_missing < sites {
-        return Err(Refusal { number: 19, place: before_missing as u64 + 1 });
+    marks
+};
+
+impl Mark {
+    const fn not_allowed() -> Mark {
+        Mark {
+            most: [0; 4],
+            at_transit: [0; 4],
+            most_eerp: 0,
+            unmetered: 0,
+            input_count: 0,
+            transit_count: 0,
+        }
     }
-    Ok(())
+
+    const fn allowed(mark: u8) -> Mark {
+        let [reactive, generated, night] =
+            [mark & REACTIVE_METER != 0, mark & GENERATED_METER != 0, mark & NIGHT_METER != 0];
+        let without_generated = if generated { 0 } else { ONE_WITHOUT_GENERATED };
+        let without_night = if night { 0 } else { ONE_WITHOUT_NIGHT };
+        Mark {
+            most: [
+                MOST_READING,
+                if reactive { MOST_READING } else { 0 },
+                if generated { MOST_READING } else { 0 },
+                if night { !0 } else { 0 },
+            ],
+            at_transit: [if reactive { !0 } else { 0 }, !0, !0, !0],
+            most_eerp: MOST_EERP as u32,
+            unmetered: if reactive { 0 } else { !0 },
+            input_count: ONE_INPUT + without_generated + without_night,
+            transit_count: without_night,
+        }
+    }
 }

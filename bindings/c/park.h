@@ -1,4 +1,4 @@
-/* The park bill for C. Link libpark_c.a, which `rt staticlib park_c` makes.
+/* The park bill for C and C++. Link libpark_c.a, which `rt staticlib park_c` makes.
    Each call returns 0, or the number of the rule that refuses, and writes the place it speaks of
    (a site or line counted from 1), or 0. A refusal writes nothing else, but for *sites, which is 0.
    Pointers must be valid for their lengths, and no two may overlap; file and list may be of any length, 0 too. */
@@ -7,6 +7,10 @@
 
 #include <stddef.h>
 #include <stdint.h>
+
+#ifdef __cplusplus
+extern "C" {
+#endif
 
 /* Checks a file. */
 uint64_t park_check(const uint8_t *file, size_t file_len, uint64_t *place);
@@ -18,5 +22,9 @@ uint64_t park_bill_site(const uint8_t *file, size_t file_len, uint64_t bill[11],
 /* Bills every site into a list of list_len numbers, eleven a site, and writes the number of sites. */
 uint64_t park_bill_park(const uint8_t *file, size_t file_len, uint64_t *list, size_t list_len,
                         uint64_t *place, uint64_t *sites);
+
+#ifdef __cplusplus
+}
+#endif
 
 #endif

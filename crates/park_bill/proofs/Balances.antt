@@ -1,6 +1,6 @@
 -- The loss balance: from each site's split to the park, line by line.
 -- Assumes nothing.
-use Prim.Native.Nat.{ℕ, zero, suc, _+_, _*_, _-_, _≤_, _<_}
+use Prim.Native.Nat.{ℕ, zero, suc, _+_, _*_, _≤_, _<_}
 use native.Mathlib.Nat.{add-zero, zero-add, add-mul, zero-mul, not-suc-le-zero, le-of-suc-le-suc, eq-or-lt-of-le, le-trans}
 use native.Mathlib.Omega.{arith}
 use mathlib.Core.Logic.{⊎-elim}
@@ -19,11 +19,12 @@ use Rattle.park_charge.specs.Flow.{inflow, outflow}
 use Rattle.park_charge.specs.Losses.{settled, cut, settled-balance}
 use Rattle.park_charge.specs.Rounding.{rounded, rounded-upper, rounded-lower}
 use Rattle.park_charge.specs.Charge.{lossCharge}
-use Rattle.park_bill.specs.Sums.{overSites, sumBy, EachSite}
-use Rattle.park_bill.specs.Bill.{bill, lossIn, lossOut, tangentOf, weightedSum}
-use Rattle.park_bill.specs.Totals.{when}
-use Rattle.park_bill.specs.Balance.{Measured, comingIn, goingBack, networkEnergy, Balance}
-use Rattle.park_bill.proofs.Sums.{sumBy-select}
+use Rattle.park_sums.specs.Flows.{lossIn, lossOut}
+use Rattle.park_sums.specs.Sums.{overSites, sumBy, EachSite}
+use Rattle.park_bill.specs.Bill.{bill, tangentOf, touching, weightedSum}
+use Rattle.park_sums.specs.Inner.Rows.{when}
+use Rattle.park_bill.specs.Balance.{Measured, MeasuredBetween, comingIn, goingBack, networkEnergy, Balance}
+use Rattle.park_sums.proofs.Sums.{sumBy-add, sumBy-cong, sumBy-select}
 
 -- sums over sites 1 to n
 pub over-cong : (f g : ℕ → ℕ) (n : ℕ) → EachSite (λ (k : ℕ). f k ≡ g k) n → overSites f n ≡ overSites g n
@@ -76,17 +77,6 @@ unfolding overSites
 met-network g zero = refl
 met-network g (suc n) = ap₂ _+_ (met-network g n) (ap (λ (b : Bool). when b (g (suc n))) (eqb·zero-suc n))
 
--- a sum over lines, of values that are equal on each of them
-lines-cong : (P : Line → Type 0) (f g : Line → ℕ) → ((l : Line) → P l → f l ≡ g l) → (lines : List Line) → Every P lines → sumBy f lines ≡ sumBy g lines
-unfolding sumBy
-lines-cong P f g e [] h = refl
-lines-cong P f g e (l ∷ lines) h = ap₂ _+_ (e l (h .0)) (lines-cong P f g e lines (h .1))
-
-lines-add : (f g : Line → ℕ) (lines : List Line) → sumBy (λ (l : Line). f l + g l) lines ≡ sumBy f lines + sumBy g lines
-unfolding sumBy
-lines-add f g [] = refl
-lines-add f g (l ∷ lines) = omega (arith, lines-add f g lines)
-
 both : (P Q : Line → Type 0) (lines : List Line) → Every P lines → Every Q lines → Every (λ (l : Line). P l × Q l) lines
 both P Q [] p q = tt
 both P Q (l ∷ lines) p q = ((p .0, q .0), both P Q lines (p .1) (q .1))
@@ -97,7 +87,7 @@ unfolding inflow outflow
 same-flow tg l e = rw e
 
 -- one line: what its ends put into the sums of sites 1 to n and of the network comes to the same on both sides
-line-cancels : (tg : ℕ → ℕ) (n : ℕ) (l : Line) → KeptLine n l → ((l .from ≡ 0 → ⊥) → (l .to ≡ 0 → ⊥) → measuresReactive (l .meters) ≡ true)
+line-cancels : (tg : ℕ → ℕ) (n : ℕ) (l : Line) → KeptLine n l → MeasuredBetween l
     → overSites (λ (k : ℕ). when (eqb (l .to) k) (lossIn l)) n + when (eqb (l .to) 0) (lossOut (tg (l .from)) l)
     ≡ overSites (λ (k : ℕ). when (eqb (l .from) k) (lossOut (tg k) l)) n + when (eqb (l .from) 0) (lossIn l)
 line-cancels tg n l kept metered = by (ℕ-discrete (l .from) 0) (ℕ-discrete (l .to) 0)
@@ -136,16 +126,16 @@ line-cancels tg n l kept metered = by (ℕ-discrete (l .from) 0) (ℕ-discrete (
     by (no f) (no t) = to-site t ∙ same-flow (tg (l .from)) l (metered f t) ∙ sym (from-site f)
 
 -- all lines: the sites' inflows with what goes back are the sites' outflows with what comes in
-lines-cancel : (tg : ℕ → ℕ) (n : ℕ) (lines : List Line) → Every (KeptLine n) lines → Every (λ (l : Line). (l .from ≡ 0 → ⊥) → (l .to ≡ 0 → ⊥) → measuresReactive (l .meters) ≡ true) lines
+lines-cancel : (tg : ℕ → ℕ) (n : ℕ) (lines : List Line) → Every (KeptLine n) lines → Every MeasuredBetween lines
     → overSites (λ (k : ℕ). sumBy lossIn (inputs k lines)) n + sumBy (λ (l : Line). lossOut (tg (l .from)) l) (inputs 0 lines)
     ≡ overSites (λ (k : ℕ). sumBy (lossOut (tg k)) (transits k lines)) n + sumBy lossIn (transits 0 lines)
 lines-cancel tg n lines kept metered =
     ap₂ _+_
     (over-cong _ _ n (λ k l h. sumBy-select lossIn (λ (x : Line). eqb (x .to) k) lines) ∙ over-lines (λ (k : ℕ) (x : Line). when (eqb (x .to) k) (lossIn x)) n lines)
     (sumBy-select (λ (x : Line). lossOut (tg (x .from)) x) (λ (x : Line). eqb (x .to) 0) lines)
-    ∙ sym (lines-add _ _ lines)
-    ∙ lines-cong _ _ _ (λ l h. line-cancels tg n l (h .0) (h .1)) lines (both _ _ lines kept metered)
-    ∙ lines-add _ _ lines
+    ∙ sym (sumBy-add _ _ lines)
+    ∙ sumBy-cong _ _ _ (λ l h. line-cancels tg n l (h .0) (h .1)) lines (both _ _ lines kept metered)
+    ∙ sumBy-add _ _ lines
     ∙ sym (ap₂ _+_
     (over-cong _ _ n (λ k l h. sumBy-select (lossOut (tg k)) (λ (x : Line). eqb (x .from) k) lines) ∙ over-lines (λ (k : ℕ) (x : Line). when (eqb (x .from) k) (lossOut (tg k) x)) n lines)
     (sumBy-select lossIn (λ (x : Line). eqb (x .from) 0) lines))
@@ -156,10 +146,10 @@ module _ (p : Park) (kept : Every (KeptLine (p .header .sites)) (p .lines)) (mea
   n = p .header .sites
 
   abbrev tangents : ℕ → ℕ
-  tangents k = tangentOf (inputs k (p .lines)) (transits k (p .lines))
+  tangents k = tangentOf (touching k (p .lines))
 
   abbrev sum-of : ℕ → ℤ
-  sum-of k = weightedSum (inputs k (p .lines)) (transits k (p .lines))
+  sum-of k = weightedSum (touching k (p .lines))
 
   -- each site: settled and out are in and cut
   site-split : (k : ℕ) → settled (sum-of k) + sumBy (lossOut (tangents k)) (transits k (p .lines)) ≡ sumBy lossIn (inputs k (p .lines)) + cut (sum-of k)
@@ -238,6 +228,7 @@ module _ (p : Park) (kept : Every (KeptLine (p .header .sites)) (p .lines)) (mea
   pub balanced : Balance p bills
   balanced =
       record {
+        step5 = λ k l h. (of .settled k l h, of .cut k l h);
         balance = in-balance;
         uncut = (λ e. over-zero _ s (nothing-added (networkEnergy p) _ (sym e ∙ in-balance)), equal-uncut);
         charges = λ none payable. priced (λ (k : ℕ). bills k 3) (λ (k : ℕ). bills k 6) (p .header .price) s (due-charge payable);

@@ -1,13 +1,9 @@
-pub mod Signed
-pub mod Room
-pub mod Sums
-pub mod Walks
-pub mod Parks
-pub mod Choices
-pub mod Small
-pub mod Bills
+pub mod Links
 pub mod Sites
+pub mod Starts
+pub mod Money
 pub mod Refusals
 pub mod Slices
+pub mod Billed
 pub mod Balances
 pub mod Outcomes

@@ -1,7 +1,5 @@
-pub mod Sums
 pub mod Bill
-pub mod Totals
-pub mod Walk
-pub mod Site
 pub mod Reply
+pub mod Billed
 pub mod Balance
+pub mod Inner

@@ -2,9 +2,6 @@
 pub mod bill;
 pub mod call;
 mod site;
-mod totals;
-mod walk;
-mod weighted;
 
 pub use call::bill_park;
 pub use call::bill_site;

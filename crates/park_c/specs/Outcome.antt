@@ -2,8 +2,10 @@
 -- Assumes nothing.
 use Prim.Native.Nat.{ℕ}
 use mathlib.Core.Logic.{_⊎_, inl, inr}
-use mathlib.Core.List.{List}
+use mathlib.Core.Bool.{cond}
+use mathlib.Core.List.{List, []}
 use mathlib.Core.Option.{Option}
+use lib.Dec.{eqb}
 use Rattle.park_bill.specs.Bill.{words}
 use Rattle.park_bill.specs.Reply.{answer}
 use Rattle.park_bill.specs.declared.bill.Bill.{Bill}
@@ -24,6 +26,10 @@ checked refused = answer refused tt
 abbrev pub numbersAfter : (ℕ × ℕ) ⊎ Bill → List ℕ → List ℕ
 numbersAfter (inl refusal) before = before
 numbersAfter (inr b) before = words b
+
+-- the numbers that a call returns in a bill: those left there where the number returned is 0, else none
+abbrev pub returned : ℕ → List ℕ → List ℕ
+returned number after = cond (eqb number 0) after []
 
 -- the number of sites; 0 where the call refuses
 abbrev pub sitesOf : (ℕ × ℕ) ⊎ ℕ → ℕ

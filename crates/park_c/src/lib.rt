@@ -1,11 +1,13 @@
 // The three calls for C and Rust. Each returns a refusal's number, or 0, and writes its place, or 0.
+use park_bill::bill::Bill;
 use park_bill::call::ParkReply;
 use park_bill::call::SiteReply;
 use park_format::rule::Verdict;
 ghost use mathlib.Core.Path.{_≡_};
 ghost use Rattle.park_format.specs.Rules.{refusal};
+ghost use Rattle.park_bill.specs.Balance.{InBalance, SiteInBalance};
 ghost use Rattle.park_bill.specs.Reply.{listAfter, parkOutcome, siteOutcome};
-ghost use Rattle.park_c.specs.Outcome.{checked, numberOf, numbersAfter, placeOf, sitesOf};
+ghost use Rattle.park_c.specs.Outcome.{checked, numberOf, numbersAfter, placeOf, returned, sitesOf};
 
 // Checks a file.
 #[no_mangle]
@@ -29,13 +31,14 @@ pub extern "C" fn park_check(file: &[u8], place: &mut u64) -> u64
 #[no_mangle]
 pub extern "C" fn park_bill_site(
     file: &[u8],
-    bill: &mut [u64; 11],
+    bill: &mut [u64; Bill::NUMBERS],
     site: u64,
     place: &mut u64,
 ) -> u64
     ensures number { λ r. ⌜ r ≡ numberOf (siteOutcome (now (file .entry)) site) ⌝ }
     ensures bill { λ r. ⌜ now (bill .exit) ≡ numbersAfter (siteOutcome (now (file .entry)) site) (now (bill .entry)) ⌝ }
     ensures place { λ r. ⌜ now (place .exit) ≡ placeOf (siteOutcome (now (file .entry)) site) ⌝ }
+    ensures balance { λ r. ⌜ SiteInBalance (now (file .entry)) site (returned r (now (bill .exit))) ⌝ }
 {
     match park_bill::bill_site(file, site) {
         SiteReply::Refused(refusal) => {
@@ -62,6 +65,7 @@ pub extern "C" fn park_bill_park(
     ensures list { λ r. ⌜ now (list .exit) ≡ listAfter (now (file .entry)) (now (list .entry)) ⌝ }
     ensures place { λ r. ⌜ now (place .exit) ≡ placeOf (parkOutcome (now (file .entry)) (now (list .entry))) ⌝ }
     ensures sites { λ r. ⌜ now (sites .exit) ≡ sitesOf (parkOutcome (now (file .entry)) (now (list .entry))) ⌝ }
+    ensures balance { λ r. ⌜ InBalance (now (file .entry)) (now (list .entry)) (now (list .exit)) ⌝ }
 {
     match park_bill::bill_park(file, list) {
         ParkReply::Refused(refused) => {

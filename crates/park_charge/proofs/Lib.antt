@@ -1,1 +1,3 @@
 pub mod Product
+mod Signs
+pub mod Bounds

@@ -3,4 +3,3 @@ pub mod Flow
 pub mod Losses
 pub mod Generation
 pub mod Charge
-pub mod Bounds

@@ -1,6 +1,6 @@
 -- What an accepted file guarantees, from the rows of the table that are not broken.
 -- Assumes nothing.
-use Prim.Native.Nat.{ℕ, zero, suc, _+_, _-_, _*_, _≤_, _<_}
+use Prim.Native.Nat.{ℕ, zero, suc, _+_, _-_, _≤_, _<_}
 use native.Mathlib.Omega.{arith}
 use native.Mathlib.Nat.{le-of-suc-le-suc, not-suc-le-zero, add-zero, add-suc, suc-add, add-sub-of-le}
 use mathlib.Core.Path.{_≡_, refl, ap}
@@ -9,9 +9,12 @@ use mathlib.Core.List.{List, [], _∷_, _++_}
 use mathlib.Core.Option.{none}
 use lib.Dec.{eqb, ltb, leb}
 use lib.ListN.{length}
+use Rattle.park_format.specs.Format.{headerSize}
+use Rattle.park_format.specs.Inner.Sized.{Sized}
+use Rattle.park_format.specs.Limits.{months, mostDiscount, mostEerp, mostFlag, mostInstalled, mostLines, mostMark, mostPower, mostPrice, mostReading, mostSites}
 use borrow.Author.Tests.{eqb-true, eqb-false, ltb-false, leb-false, not-false, ne-eqb, eq-eqb}
-use Rattle.park_format.specs.Park.{headerOf, parkOf, siteAt, sitesOf, lineAt, linesOf, inputs}
-use Rattle.park_format.specs.Rules.{Row, firstBroken, headerRules, siteRules, lineRules, inputRules, each, headRefusal, rulesOf, refusal, wrongDevice, withoutMeter, measuresReactive, measuresGenerated, measuresNight, isEmpty, parkMark, sizeOf, mostHours, endAbove, bothNetwork, backwards}
+use Rattle.park_format.specs.Park.{inputs, lineOf, parkOf, siteOf}
+use Rattle.park_format.specs.Rules.{IsAccepted, Row, firstBroken, headerRules, siteRules, lineRules, inputRules, each, fileRules, hasDevices, hasWrongLength, isShort, rulesOf, refusal, startRules, wrongDevice, withoutMeter, measuresReactive, measuresGenerated, measuresNight, isEmpty, parkMark, sizeOf, mostHours, endAbove, bothNetwork, backwards, readingAbove, wrongDevices, wrongEnds, wrongMeters, wrongReadings}
 use Rattle.park_format.specs.Rules.Row.{rule}
 use Rattle.park_format.specs.Accepted.{KeptHeader, KeptSite, KeptLine, Every, Guarantee}
 use Rattle.park_format.specs.declared.header.Header.{Header}
@@ -36,41 +39,45 @@ whole (rule n p false ∷ rows) e = (refl, whole rows e)
 equal : (a b : ℕ) → not (eqb a b) ≡ false → a ≡ b
 equal a b e = eqb-true a b (not-false (eqb a b) e)
 
-pub kept-header : (size : ℕ) (h : Header) → firstBroken (headerRules size h) ≡ none → KeptHeader size h
+pub kept-header : (size : ℕ) (h : Header) → firstBroken (headerRules (not (eqb size (sizeOf h))) h) ≡ none → KeptHeader size h
 unfolding headerRules
 kept-header size h e =
-    let w = whole (headerRules size h) e in
+    let w = whole (headerRules (not (eqb size (sizeOf h))) h) e in
     record {
-      mark = equal (h .mark) parkMark (w .0);
-      version = equal (h .version) 1 (w .1 .0);
-      month = within 12 (h .month) (w .1 .1 .0);
-      sites = within 16 (h .sites) (w .1 .1 .1 .0);
-      lines = within 64 (h .lines) (w .1 .1 .1 .1 .0);
-      price = within 2000000 (h .price) (w .1 .1 .1 .1 .1 .0);
-      hours = ltb-false (mostHours (h .month)) (h .hours) (w .1 .1 .1 .1 .1 .1 .0);
-      size = equal size (sizeOf h) (w .1 .1 .1 .1 .1 .1 .1 .0);
+      mark = equal (h .mark) parkMark search;
+      version = equal (h .version) 1 search;
+      month = within months (h .month) search;
+      sites = within mostSites (h .sites) search;
+      lines = within mostLines (h .lines) search;
+      price = within mostPrice (h .price) search;
+      hours = ltb-false (mostHours (h .month)) (h .hours) search;
+      size = equal size (sizeOf h) search;
     }
 
+pub kept-sized : {size : ℕ} {h : Header} → KeptHeader size h → Sized h size
+kept-sized k = record { sites = k .sites .1; lines = k .lines .1; size = k .size }
+
 -- rule 12 of one of Q and P
-kept-device : (flag x : ℕ) → wrongDevice flag x ≡ false → (x ≤ 20000) × (flag ≡ 0 → x ≡ 0)
-kept-device flag x e =
-    let w = or-false (ltb 20000 x) (eqb flag 0 && not (eqb x 0)) e in
-    (ltb-false 20000 x (w .0), λ z. equal x 0 (and-false (eqb flag 0) (not (eqb x 0)) (w .1) (eq-eqb flag 0 z)))
+kept-device : (x : Site) (installed : ℕ) → wrongDevice x installed ≡ false → (installed ≤ mostInstalled) × (hasDevices x ≡ false → installed ≡ 0)
+kept-device x installed e =
+    let w = or-false (ltb mostInstalled installed) (not (hasDevices x) && not (eqb installed 0)) e in
+    (ltb-false mostInstalled installed (w .0), λ z. equal installed 0 (and-false (not (hasDevices x)) (not (eqb installed 0)) (w .1) (ap not z)))
 
 pub kept-site : (k : ℕ) (x : Site) → firstBroken (siteRules k x) ≡ none → KeptSite x
 unfolding siteRules
 kept-site k x e =
     let w = whole (siteRules k x) e in
-    let i = or-false (wrongDevice (x .devices) (x .compensation)) (wrongDevice (x .devices) (x .motors)) (w .1 .1 .0) in
-    let q = kept-device (x .devices) (x .compensation) (i .0) in
-    let p = kept-device (x .devices) (x .motors) (i .1) in
+    let rule12 : wrongDevices x ≡ false = search in
+    let i = or-false (wrongDevice x (x .compensation)) (wrongDevice x (x .motors)) rule12 in
+    let q = kept-device x (x .compensation) (i .0) in
+    let p = kept-device x (x .motors) (i .1) in
     record {
-      power = within 1000000 (x .power) (w .0);
-      devices = ltb-false 1 (x .devices) (w .1 .0);
+      power = within mostPower (x .power) search;
+      devices = ltb-false mostFlag (x .devices) search;
       compensation = q .0;
       motors = p .0;
       withoutDevices = λ z. (q .1 z, p .1 z);
-      discount = ltb-false 1000 (x .discount) (w .1 .1 .1 .0);
+      discount = ltb-false mostDiscount (x .discount) search;
     }
 
 -- rule 18 of one reading
@@ -82,15 +89,18 @@ unfolding lineRules
 kept-line s k l e =
     let w = whole (lineRules s k l) e in
     let m = l .meters in
-    let ends = or-false (endAbove s l) (bothNetwork l || backwards l) (w .0) in
+    let rule14 : wrongEnds s l ≡ false = search in
+    let rule15 : wrongMeters m ≡ false = search in
+    let rule17 : readingAbove l ≡ false = search in
+    let rule18 : wrongReadings l ≡ false = search in
+    let ends = or-false (endAbove s l) (bothNetwork l || backwards l) rule14 in
     let above = or-false (ltb s (l .from)) (ltb s (l .to)) (ends .0) in
     let drawn = or-false (bothNetwork l) (backwards l) (ends .1) in
-    let marks = or-false (ltb 7 m) (measuresNight m && not (measuresGenerated m)) (w .1 .0) in
-    let most = w .1 .1 .1 .0 in
-    let r1 = or-false (ltb 10000000 (l .active)) _ most in
-    let r2 = or-false (ltb 10000000 (l .reactive)) _ (r1 .1) in
-    let r3 = or-false (ltb 10000000 (l .generated)) _ (r2 .1) in
-    let m1 = or-false (withoutMeter (measuresReactive m) (l .reactive)) _ (w .1 .1 .1 .1 .0) in
+    let marks = or-false (ltb mostMark m) (measuresNight m && not (measuresGenerated m)) rule15 in
+    let r1 = or-false (ltb mostReading (l .active)) _ rule17 in
+    let r2 = or-false (ltb mostReading (l .reactive)) _ (r1 .1) in
+    let r3 = or-false (ltb mostReading (l .generated)) _ (r2 .1) in
+    let m1 = or-false (withoutMeter (measuresReactive m) (l .reactive)) _ rule18 in
     let m2 = or-false (withoutMeter (measuresGenerated m) (l .generated)) _ (m1 .1) in
     let m3 = or-false (withoutMeter (measuresNight m) (l .night)) _ (m2 .1) in
     record {
@@ -102,13 +112,13 @@ kept-line s k l e =
           (and-false (not (eqb (l .to) 0)) (leb (l .to) (l .from))
           (and-false (not (eqb (l .from) 0)) (not (eqb (l .to) 0) && leb (l .to) (l .from)) (drawn .1) (ap not (ne-eqb (l .from) 0 a)))
           (ap not (ne-eqb (l .to) 0 b)));
-      meters = ltb-false 7 m (marks .0);
+      meters = ltb-false mostMark m (marks .0);
       nightGenerated = λ n. not-false (measuresGenerated m) (and-false (measuresNight m) (not (measuresGenerated m)) (marks .1) n);
-      eerp = within 5000 (l .eerp) (w .1 .1 .0);
-      active = ltb-false 10000000 (l .active) (r1 .0);
-      reactive = ltb-false 10000000 (l .reactive) (r2 .0);
-      generated = ltb-false 10000000 (l .generated) (r3 .0);
-      night = ltb-false 10000000 (l .night) (r3 .1);
+      eerp = within mostEerp (l .eerp) search;
+      active = ltb-false mostReading (l .active) (r1 .0);
+      reactive = ltb-false mostReading (l .reactive) (r2 .0);
+      generated = ltb-false mostReading (l .generated) (r3 .0);
+      night = ltb-false mostReading (l .night) (r3 .1);
       unmeteredReactive = kept-reading (measuresReactive m) (l .reactive) (m1 .0);
       unmeteredGenerated = kept-reading (measuresGenerated m) (l .generated) (m2 .0);
       unmeteredNight = kept-reading (measuresNight m) (l .night) (m3 .0);
@@ -133,34 +143,30 @@ fed-from lines k (suc i) (x ∷ xs) e h =
     rw (add-suc, ← suc-add)
     (fed-from lines (suc k) i xs (first-none (inputRules lines k x) (each (inputRules lines) (suc k) xs) e .1) (le-of-suc-le-suc h))
 
--- a file whose head is accepted keeps its rules
-pub head-kept : (file : List ℕ) → headRefusal file ≡ none → (14 ≤ length file) × KeptHeader (length file) (headerOf file)
-unfolding headRefusal parkOf
-head-kept file e =
-    let p = parkOf file in
-    let both = first-none (rule 1 0 (ltb (length file) 14) ∷ headerRules (length file) (p .header)) (each siteRules 1 (p .sites)) e in
-    let start = first-none (rule 1 0 (ltb (length file) 14) ∷ []) (headerRules (length file) (p .header)) (both .0) in
-    (ltb-false (length file) 14 (whole (rule 1 0 (ltb (length file) 14) ∷ []) (start .0) .0), kept-header (length file) (p .header) (start .1))
-
 -- an accepted file keeps every rule
 pub kept : Guarantee
-unfolding refusal rulesOf parkOf sitesOf linesOf
+unfolding refusal fileRules rulesOf parkOf
 kept file e =
     let p = parkOf file in
-    let s = p .header .sites in
-    let first = rule 1 0 (ltb (length file) 14) ∷ headerRules (length file) (p .header) in
+    let h = p .header in
+    let start = startRules (isShort file) in
+    let header = headerRules (hasWrongLength file) h in
     let sites = each siteRules 1 (p .sites) in
-    let lines = each (lineRules s) 1 (p .lines) in
+    let lines = each (lineRules (h .sites)) 1 (p .lines) in
     let inputs = each (inputRules (p .lines)) 1 (p .sites) in
-    let a = first-none first (sites ++ (lines ++ inputs)) e in
+    let a = first-none (start ++ header) (sites ++ (lines ++ inputs)) e in
     let b = first-none sites (lines ++ inputs) (a .1) in
     let c = first-none lines inputs (b .1) in
-    let length-sites = length-listOf (λ (i : ℕ). siteAt file (14 + 11 * i)) s in
+    let length-sites = length-listOf (siteOf h file) (h .sites) in
     record {
-      header = kept-header (length file) (p .header) (first-none (rule 1 0 (ltb (length file) 14) ∷ []) (headerRules (length file) (p .header)) (a .0) .1);
+      header = kept-header (length file) h (first-none start header (a .0) .1);
       siteCount = length-sites;
-      lineCount = length-listOf (λ (i : ℕ). lineAt file (14 + 11 * s + 21 * i)) (p .header .lines);
+      lineCount = length-listOf (lineOf h file) (h .lines);
       sites = each-kept siteRules KeptSite kept-site 1 (p .sites) (b .0);
-      lines = each-kept (lineRules s) (KeptLine s) (kept-line s) 1 (p .lines) (c .0);
+      lines = each-kept (lineRules (h .sites)) (KeptLine (h .sites)) (kept-line (h .sites)) 1 (p .lines) (c .0);
       fed = λ k h l. rw (← (add-sub-of-le h)) (fed-from (p .lines) 1 (k - 1) (p .sites) (c .1) (omega arith));
     }
+
+-- an accepted file is long enough for its header
+pub header-fits : (file : List ℕ) → IsAccepted file → headerSize ≤ length file
+header-fits file accepted = omega (arith, kept file accepted .header .size)

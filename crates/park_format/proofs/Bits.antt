@@ -4,13 +4,14 @@ use Prim.Native.Nat.{ℕ, zero, suc, _+_, _-_, _*_, _/_, _%_, _^_, _≤_, _<_, s
 use native.Mathlib.Nat.{pow-suc, not-suc-le-zero, le-of-suc-le-suc, lt-of-lt-of-le, mod-eq-of-lt, one-mul}
 use native.Mathlib.Omega.{arith}
 use mathlib.Core.Path.{_≡_, refl, sym, ap, _∙_}
-use mathlib.Core.Bool.{true, false, not, _||_}
+use mathlib.Core.Bool.{true, false, not, _&&_, _||_}
 use lib.Dec.{eqb, eqb·zero-suc, eqb·suc-zero, eqb·suc-suc, lit≤}
-use lib.Bits.{bitAnd, bitOr, and-mask, or-shr, or-mod}
+use lib.Bits.{bitAnd, bitOr, and-mask, and-mod, and-shr, or-shr, or-mod}
 use lib.Pow.{pow-mono}
 use lib.Count.{trailingZeros, under, trailing-le}
 use borrow.Author.Tests.{not-true, not-false}
-use Rattle.park_format.specs.Set.{has, Lowest}
+use Rattle.park_format.specs.Inner.Set.{has, Lowest}
+use Rattle.park_format.specs.Rules.{measuresGenerated, measuresNight}
 
 -- the lowest digit, by a mask
 pub low-digit : (x : ℕ) → eqb (bitAnd x 1) 1 ≡ eqb (x % 2) 1
@@ -27,6 +28,22 @@ low-or x y h k =
     digit (λ (a : ℕ). eqb (bitOr a y) 1 ≡ (eqb a 1 || eqb y 1)) x h
     (digit (λ (b : ℕ). eqb (bitOr 0 b) 1 ≡ (eqb 0 1 || eqb b 1)) y k refl refl)
     (digit (λ (b : ℕ). eqb (bitOr 1 b) 1 ≡ (eqb 1 1 || eqb b 1)) y k refl refl)
+
+-- the digits of what two numbers have in common
+low-and : (x y : ℕ) → x < 2 → y < 2 → eqb (bitAnd x y) 1 ≡ (eqb x 1 && eqb y 1)
+low-and x y h k =
+    digit (λ (a : ℕ). eqb (bitAnd a y) 1 ≡ (eqb a 1 && eqb y 1)) x h
+    (digit (λ (b : ℕ). eqb (bitAnd 0 b) 1 ≡ (eqb 0 1 && eqb b 1)) y k refl refl)
+    (digit (λ (b : ℕ). eqb (bitAnd 1 b) 1 ≡ (eqb 1 1 && eqb b 1)) y k refl refl)
+
+digit-and : (a b : ℕ) → eqb (bitAnd a b % 2) 1 ≡ (eqb (a % 2) 1 && eqb (b % 2) 1)
+digit-and a b = ap (λ (x : ℕ). eqb x 1) (and-mod a b 1) ∙ low-and (a % 2) (b % 2) (omega arith) (omega arith)
+
+pub both-generated : (a b : ℕ) → measuresGenerated (bitAnd a b) ≡ (measuresGenerated a && measuresGenerated b)
+both-generated a b = ap (λ (x : ℕ). eqb (x % 2) 1) (and-shr a b 1) ∙ digit-and (a / 2) (b / 2)
+
+pub both-night : (a b : ℕ) → measuresNight (bitAnd a b) ≡ (measuresNight a && measuresNight b)
+both-night a b = ap (λ (x : ℕ). eqb (x % 2) 1) (and-shr a b 2) ∙ digit-and (a / 4) (b / 4)
 
 pub has-or : (j a b : ℕ) → has (bitOr a b) j ≡ (has a j || has b j)
 unfolding has

@@ -2,5 +2,8 @@ pub mod Tests
 pub mod Lists
 pub mod Bits
 pub mod Rules
+pub mod Records
+pub mod Entries
 pub mod Accepted
 pub mod Verdict
+pub mod Cut

@@ -2,12 +2,14 @@
 -- Assumes nothing.
 use Prim.Native.Nat.{ℕ, zero, suc, _+_, _<_}
 use native.Mathlib.Nat.{not-suc-le-zero, le-of-suc-le-suc, eq-or-lt-of-le}
+use native.Mathlib.Numerals.{add-one}
 use native.Mathlib.Omega.{arith}
 use mathlib.Core.Logic.{⊎-elim}
 use mathlib.Core.Path.{_≡_, refl, sym, ap, subst, _∙_}
 use mathlib.Core.Bool.{Bool, true, false, _&&_, cond}
 use mathlib.Core.List.{List, [], _∷_, _++_}
-use lib.ListN.{length, length-append}
+use lib.ListN.{getD, length, length-append, List·getD-append}
+use lib.Seq.{getD-at}
 use Rattle.park_format.specs.Park.{listOf, select}
 use Rattle.park_format.specs.Rules.{isEmpty}
 use Rattle.park_format.specs.Accepted.{Every}
@@ -17,6 +19,20 @@ module _ {ℓ} {A : Type ℓ} where
   unfolding listOf
   length-listOf f zero = refl
   length-listOf f (suc n) = length-append (listOf f n) (f n ∷ []) ∙ ap (λ (k : ℕ). k + 1) (length-listOf f n) ∙ omega arith
+
+  -- the value at a place of a list made in order
+  pub getD-listOf : (f : ℕ → A) (n : ℕ) (d : A) (i : ℕ) → i < n → getD (listOf f n) i d ≡ f i
+  unfolding listOf
+  getD-listOf f zero d i h = absurd (not-suc-le-zero h)
+  getD-listOf f (suc n) d i h =
+      ⊎-elim
+      (λ e. ap (λ (k : ℕ). getD (listOf f n ++ (f n ∷ [])) k d) e ∙ getD-at (listOf f n) (f n) [] d n (length-listOf f n) ∙ ap f (sym e))
+      (λ l. List·getD-append (listOf f n) (f n ∷ []) d i (subst (λ (m : ℕ). i < m) (sym (length-listOf f n)) l) ∙ getD-listOf f n d i l)
+      (eq-or-lt-of-le (le-of-suc-le-suc h))
+
+  pub listOf-next : (f : ℕ → A) (n : ℕ) → listOf f (n + 1) ≡ listOf f n ++ (f n ∷ [])
+  unfolding listOf
+  listOf-next f n = rw add-one
 
   pub select-append : (test : A → Bool) (xs ys : List A) → select test (xs ++ ys) ≡ select test xs ++ select test ys
   unfolding select
@@ -34,6 +50,21 @@ module _ {ℓ} {A : Type ℓ} where
   pub every-append : (P : A → Type 0) (xs ys : List A) → Every P (xs ++ ys) → Every P xs × Every P ys
   every-append P [] ys e = (tt, e)
   every-append P (x ∷ xs) ys e = let r = every-append P xs ys (e .1) in ((e .0, r .0), r .1)
+
+  pub every-snoc : (P : A → Type 0) (xs : List A) (y : A) → Every P xs → P y → Every P (xs ++ (y ∷ []))
+  every-snoc P [] y e h = (h, tt)
+  every-snoc P (x ∷ xs) y e h = (e .0, every-snoc P xs y (e .1) h)
+
+  -- what holds of each value of a list, and of what stands past its end, holds at every place
+  pub every-getD : (P : A → Type 0) (d : A) → P d → (xs : List A) → Every P xs → (i : ℕ) → P (getD xs i d)
+  every-getD P d h [] e i = h
+  every-getD P d h (x ∷ xs) e zero = e .0
+  every-getD P d h (x ∷ xs) e (suc i) = every-getD P d h xs (e .1) i
+
+  pub every-listOf : (P : A → Type 0) (f : ℕ → A) (n : ℕ) → ((i : ℕ) → i < n → P (f i)) → Every P (listOf f n)
+  unfolding listOf
+  every-listOf P f zero h = tt
+  every-listOf P f (suc n) h = every-snoc P (listOf f n) (f n) (every-listOf P f n (λ i l. h i (omega arith))) (h n (omega arith))
 
   -- what holds of each value of a list made in order holds of the value at each place
   pub every-at : (P : A → Type 0) (f : ℕ → A) (n : ℕ) → Every P (listOf f n) → (i : ℕ) → i < n → P (f i)

@@ -6,40 +6,41 @@ use native.Mathlib.Decide.{le-ind}
 use native.Mathlib.Numerals.{add-one}
 use native.Mathlib.Omega.{arith}
 use mathlib.Core.Path.{_≡_, refl, sym, ap, _∙_}
-use mathlib.Core.Bool.{Bool, true, false, cond}
+use mathlib.Core.Bool.{Bool, true, false}
 use mathlib.Core.List.{List, [], _∷_, _++_, append-assoc, append-nil}
 use mathlib.Core.Option.{Option, none, some}
 use lib.Dec.{eqb, ltb}
 use lib.ListN.{length}
-use borrow.Author.Tests.{eqb-false, ltb-false}
+use borrow.Author.Tests.{eq-eqb, eqb-false, ltb-false, ne-eqb}
 use Rattle.park_format.specs.Park.{listOf}
-use Rattle.park_format.specs.Rules.{Row, firstBroken, each, zeroOrAbove}
+use Rattle.park_format.specs.Rules.{Row, firstBroken, each, refusalAt, zeroOrAbove}
 use Rattle.park_format.specs.Rules.Row.{rule}
 use Rattle.park_format.proofs.Tests.{or-false}
 use Rattle.park_format.proofs.Lists.{length-listOf}
 
--- v is the first broken row of a list
-pub record Finds (v : Option (ℕ × ℕ)) (rows : List Row) : Type 0 where
-  pub found : v ≡ firstBroken rows
+-- a number that is not 0 refuses, and 0 does not
+pub refuses-at : (number place : ℕ) → (number ≡ 0 → ⊥) → refusalAt number place ≡ some (number, place)
+refuses-at number place h = rw (ne-eqb number 0 h)
 
-pub found-by : {v : Option (ℕ × ℕ)} (rows : List Row) → Finds v rows → v ≡ firstBroken rows
-found-by rows f = f .found
+pub passes-at : (number place : ℕ) → number ≡ 0 → refusalAt number place ≡ none
+passes-at number place h = rw (eq-eqb number 0 h)
 
-pub no-rows : Finds none []
+-- the rows of a list before the rest are passed: what is broken first is in the rest
+pub record After (rows rest : List Row) : Type 0 where
+  pub same : firstBroken rows ≡ firstBroken rest
+
+-- the next row is broken, or is passed too, or there is none
+pub row-broken : {rows rest : List Row} {n p : ℕ} {b : Bool} → After rows (rule n p b ∷ rest) → b ≡ true → some (n, p) ≡ firstBroken rows
 unfolding firstBroken
-no-rows = record { found = refl }
+row-broken a e = sym (a .same ∙ rw e)
 
--- one row more in front
-pub row-first : {v w : Option (ℕ × ℕ)} {b b′ : Bool} {n p : ℕ} {rows : List Row} → v ≡ cond b (some (n, p)) w → b ≡ b′ → Finds w rows → Finds v (rule n p b′ ∷ rows)
+pub row-passed : {rows rest : List Row} {n p : ℕ} {b : Bool} → After rows (rule n p b ∷ rest) → b ≡ false → After rows rest
 unfolding firstBroken
-row-first e f g = record { found = rw (← (g .found), ← f) e }
+row-passed a e = record { same = a .same ∙ rw e }
 
--- a row that is broken says which, and one that is not leaves it to the rest
-pub row-broken : {b b′ : Bool} {n p : ℕ} {rows : List Row} → b ≡ b′ → b ≡ true → Finds (some (n, p)) (rule n p b′ ∷ rows)
-row-broken {n = n} {p = p} {rows = rows} e t = row-first (sym (ap (λ (b : Bool). cond b (some (n, p)) (firstBroken rows)) t)) e (record { found = refl })
-
-pub row-passed : {v : Option (ℕ × ℕ)} {b b′ : Bool} {n p : ℕ} {rows : List Row} → b ≡ b′ → b ≡ false → Finds v rows → Finds v (rule n p b′ ∷ rows)
-row-passed {v} {n = n} {p = p} e f g = row-first (sym (ap (λ (b : Bool). cond b (some (n, p)) v) f)) e g
+pub no-rows : {rows : List Row} → After rows [] → none ≡ firstBroken rows
+unfolding firstBroken
+no-rows a = sym (a .same)
 
 -- the first of two lists that has a broken row says which
 pub first-append : (xs ys : List Row) → firstBroken xs ≡ none → firstBroken (xs ++ ys) ≡ firstBroken ys

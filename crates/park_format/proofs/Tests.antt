@@ -22,13 +22,9 @@ pub or-false : (a b : Bool) → (a || b) ≡ false → (a ≡ false) × (b ≡ f
 or-false true b e = absurd (true≢false e)
 or-false false b e = (refl, e)
 
-pub and-no : (a b : Bool) → a ≡ false → (a && b) ≡ false
-and-no true b e = absurd (true≢false e)
-and-no false b e = refl
-
-pub and-next : (a b : Bool) {r : Bool} → a ≡ true → r ≡ b → r ≡ (a && b)
-and-next true b e f = f
-and-next false b e f = absurd (true≢false (sym e))
+pub and-both : (a b : Bool) → (a && b) ≡ true → (a ≡ true) × (b ≡ true)
+and-both true b e = (refl, e)
+and-both false b e = absurd (true≢false (sym e))
 
 -- the second test of an `&&` that is false is false where the first is true
 pub and-false : (a b : Bool) → (a && b) ≡ false → a ≡ true → b ≡ false

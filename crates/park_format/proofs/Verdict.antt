@@ -1,74 +1,82 @@
 -- Laws of a file's refusal: what it comes to as the parts of the table are looked at one after the other.
 -- Assumes nothing.
-use Prim.Native.Nat.{ℕ, zero, suc, _+_, _*_, _≤_, _<_}
+use Prim.Native.Nat.{ℕ, zero, suc, _+_, _≤_, _<_}
 use native.Mathlib.Nat.{le-of-lt, le-refl}
 use native.Mathlib.Numerals.{add-one}
 use native.Mathlib.Omega.{arith}
 use mathlib.Core.Path.{_≡_, refl, sym, ap, _∙_}
 use mathlib.Core.Bool.{Bool, true, false, cond, not, _&&_, _||_}
-use mathlib.Core.List.{List, [], _∷_, _++_, append-assoc}
+use mathlib.Core.List.{List, [], _∷_, _++_}
 use mathlib.Core.Option.{Option, none, some}
 use lib.Dec.{eqb, ltb}
 use lib.ListN.{length}
 use borrow.Author.Tests.{lt-ltb, le-ltb, ltb-true, ltb-false, not-true, not-false}
-use Rattle.park_format.specs.Park.{headerOf, siteAt, sitesOf, linesOf, parkOf, inputs, select}
-use Rattle.park_format.specs.Rules.{Row, firstBroken, headerRules, siteRules, lineRules, inputRules, each, rulesOf, headRefusal, refusal, isEmpty}
-use Rattle.park_format.specs.Rules.Row.{rule}
-use Rattle.park_format.specs.Set.{has, Lowest, IsFed}
+use Rattle.park_format.specs.Park.{headerOf, inputs, lineOf, listOf, parkOf, select, siteOf}
+use Rattle.park_format.specs.Rules.{Row, firstBroken, headerRules, siteRules, lineRules, inputRules, each, fileRules, hasWrongLength, rulesOf, refusal, isEmpty, sizeOf}
+use Rattle.park_format.specs.Inner.Set.{has, Lowest, IsFed}
+use Rattle.park_format.specs.Inner.Sized.{Sized}
+use Rattle.park_format.specs.Limits.{mostSites}
+use Rattle.park_format.specs.Format.{headerSize}
 use Rattle.park_format.specs.declared.header.Header.{Header}
+use Rattle.park_format.specs.declared.site.Site.{Site}
 use Rattle.park_format.specs.declared.line.Line.{Line}
+use Rattle.park_format.proofs.Accepted.{kept-header, kept-sized}
 use Rattle.park_format.proofs.Lists.{select-append, isEmpty-append}
 use Rattle.park_format.proofs.Rules.{first-append, first-stays, upTo, upTo-zero, upTo-next, upTo-stays}
 
--- the table of a file with a given header, part by part
-abbrev header-part : List ℕ → Header → List Row
-header-part file h = headerRules (length file) h
+pub too-short : (file : List ℕ) → length file < headerSize → some (1, 0) ≡ refusal file
+unfolding refusal fileRules rulesOf firstBroken
+too-short file h = rw (lt-ltb (length file) headerSize h)
 
-abbrev sites-part : List ℕ → Header → List Row
-sites-part file h = each siteRules 1 (sitesOf file (h .sites))
+-- the table of a file that is long enough for a header, part by part
+module _ (file : List ℕ) (h : Header) where
+  abbrev header-part : List Row
+  header-part = headerRules (hasWrongLength file) h
 
-abbrev lines-part : List ℕ → Header → List Row
-lines-part file h = each (lineRules (h .sites)) 1 (linesOf file (h .sites) (h .lines))
+  abbrev sites-part : List Row
+  sites-part = each siteRules 1 (listOf (siteOf h file) (h .sites))
 
-abbrev inputs-part : List ℕ → Header → List Row
-inputs-part file h = each (inputRules (linesOf file (h .sites) (h .lines))) 1 (sitesOf file (h .sites))
+  abbrev lines-part : List Row
+  lines-part = each (lineRules (h .sites)) 1 (listOf (lineOf h file) (h .lines))
 
-head-table : (file : List ℕ) (h : Header) → h ≡ headerOf file → headRefusal file ≡ firstBroken ((rule 1 0 (ltb (length file) 14) ∷ header-part file h) ++ sites-part file h)
-unfolding headRefusal parkOf
-head-table file h e = rw e
+  abbrev inputs-part : List Row
+  inputs-part = each (inputRules (listOf (lineOf h file) (h .lines))) 1 (listOf (siteOf h file) (h .sites))
 
-table : (file : List ℕ) (h : Header) → h ≡ headerOf file → refusal file ≡ firstBroken (((rule 1 0 (ltb (length file) 14) ∷ header-part file h) ++ sites-part file h) ++ (lines-part file h ++ inputs-part file h))
-unfolding refusal rulesOf parkOf
-table file h e = rw e (ap firstBroken (sym (append-assoc (rule 1 0 (ltb (length file) 14) ∷ header-part file (headerOf file)) (sites-part file (headerOf file)) (lines-part file (headerOf file) ++ inputs-part file (headerOf file)))))
+  table : h ≡ headerOf file → headerSize ≤ length file → refusal file ≡ firstBroken (header-part ++ (sites-part ++ (lines-part ++ inputs-part)))
+  unfolding refusal fileRules rulesOf parkOf firstBroken
+  table read long = rw (le-ltb (length file) headerSize long, read)
 
-pub too-short : (file : List ℕ) → length file < 14 → some (1, 0) ≡ headRefusal file
-unfolding firstBroken
-too-short file h = sym (head-table file (headerOf file) refl ∙ rw (lt-ltb (length file) 14 h))
+  pub header-refused : {r : ℕ × ℕ} → h ≡ headerOf file → headerSize ≤ length file → some r ≡ firstBroken header-part → some r ≡ refusal file
+  header-refused read long e = sym (table read long ∙ first-stays header-part _ (sym e))
 
-module _ (file : List ℕ) (h : Header) (read : h ≡ headerOf file) (long : 14 ≤ length file) where
-  header-first : firstBroken (rule 1 0 (ltb (length file) 14) ∷ header-part file h) ≡ firstBroken (header-part file h)
-  unfolding firstBroken
-  header-first = rw (le-ltb (length file) 14 long)
+  -- a header that was read and keeps its rules
+  pub record Headed : Type 0 where
+    pub read : h ≡ headerOf file
+    pub long : headerSize ≤ length file
+    pub sound : none ≡ firstBroken header-part
 
-  pub header-refused : {r : ℕ × ℕ} → some r ≡ firstBroken (header-part file h) → some r ≡ headRefusal file
-  header-refused e = sym (head-table file h read ∙ first-stays (rule 1 0 (ltb (length file) 14) ∷ header-part file h) _ (header-first ∙ sym e))
+  module _ (head : Headed) where
+    -- the file is then as long as its header says
+    pub sized : Sized h (length file)
+    sized =
+        kept-sized
+        (kept-header (length file) h (ap (λ (x : Header). firstBroken (headerRules (not (eqb (length file) (sizeOf x))) h)) (head .read) ∙ sym (head .sound)))
 
-  pub sites-decide : none ≡ firstBroken (header-part file h) → firstBroken (sites-part file h) ≡ headRefusal file
-  sites-decide header = sym (head-table file h read ∙ first-append (rule 1 0 (ltb (length file) 14) ∷ header-part file h) _ (header-first ∙ sym header))
+    after-header : refusal file ≡ firstBroken (sites-part ++ (lines-part ++ inputs-part))
+    after-header = table (head .read) (head .long) ∙ first-append header-part _ (sym (head .sound))
 
-pub head-refused : (file : List ℕ) {r : ℕ × ℕ} → some r ≡ headRefusal file → some r ≡ refusal file
-head-refused file e = sym (table file (headerOf file) refl ∙ first-stays _ _ (sym (head-table file (headerOf file) refl) ∙ sym e))
+    pub sites-refused : {r : ℕ × ℕ} → some r ≡ firstBroken sites-part → some r ≡ refusal file
+    sites-refused e = sym (after-header ∙ first-stays sites-part _ (sym e))
 
--- once the head is accepted, the lines and then the inputs decide
-module _ (file : List ℕ) (h : Header) (read : h ≡ headerOf file) (head : headRefusal file ≡ none) where
-  after-head : refusal file ≡ firstBroken (lines-part file h ++ inputs-part file h)
-  after-head = table file h read ∙ first-append _ _ (sym (head-table file h read) ∙ head)
+    module _ (sites : none ≡ firstBroken sites-part) where
+      after-sites : refusal file ≡ firstBroken (lines-part ++ inputs-part)
+      after-sites = after-header ∙ first-append sites-part _ (sym sites)
 
-  pub lines-refused : {r : ℕ × ℕ} → some r ≡ firstBroken (lines-part file h) → some r ≡ refusal file
-  lines-refused e = sym (after-head ∙ first-stays (lines-part file h) _ (sym e))
+      pub lines-refused : {r : ℕ × ℕ} → some r ≡ firstBroken lines-part → some r ≡ refusal file
+      lines-refused e = sym (after-sites ∙ first-stays lines-part _ (sym e))
 
-  pub inputs-decide : none ≡ firstBroken (lines-part file h) → firstBroken (inputs-part file h) ≡ refusal file
-  inputs-decide lines = sym (after-head ∙ first-append (lines-part file h) _ (sym lines))
+      pub inputs-decide : none ≡ firstBroken lines-part → firstBroken inputs-part ≡ refusal file
+      inputs-decide lines = sym (after-sites ∙ first-append lines-part _ (sym lines))
 
 -- one line more, and the site that it goes to
 pub fed-more : (set more : ℕ) (l : Line) (lines : List Line) → IsFed set lines → ((j : ℕ) → has more j ≡ (has set j || eqb (l .to) (suc j))) → IsFed more (lines ++ (l ∷ []))
@@ -84,33 +92,32 @@ fed-more set more l lines fed gives j =
     joined false false = refl
 
 -- 19 by the set of fed sites: the sites before the lowest that is missing have an input, and that one has none
-module _ (file : List ℕ) (lines : List Line) (set low : ℕ) (fed : IsFed set lines) (lowest : Lowest set low) where
+module _ (reads : ℕ → Site) (lines : List Line) (set low : ℕ) (fed : IsFed set lines) (lowest : Lowest set low) where
   abbrev unfed : ℕ → Option (ℕ × ℕ)
-  unfed n = upTo (inputRules lines) (λ (i : ℕ). siteAt file (14 + 11 * i)) n
+  unfed n = upTo (inputRules lines) reads n
 
-  row : (n : ℕ) (b : Bool) → has set n ≡ b → firstBroken (inputRules lines (suc n) (siteAt file (14 + 11 * n))) ≡ cond b none (some (19, suc n))
+  row : (n : ℕ) (b : Bool) → has set n ≡ b → firstBroken (inputRules lines (suc n) (reads n)) ≡ cond b none (some (19, suc n))
   unfolding inputRules firstBroken
   row n true e = rw (not-true (isEmpty (inputs (suc n) lines)) (sym (fed n) ∙ e))
   row n false e = rw (not-false (isEmpty (inputs (suc n) lines)) (sym (fed n) ∙ e))
 
   unfed-below : (n : ℕ) → n ≤ low → unfed n ≡ none
-  unfed-below zero h = upTo-zero (inputRules lines) (λ (i : ℕ). siteAt file (14 + 11 * i))
+  unfed-below zero h = upTo-zero (inputRules lines) reads
   unfed-below (suc n) h =
-      upTo-next (inputRules lines) (λ (i : ℕ). siteAt file (14 + 11 * i)) n (unfed-below n (le-of-lt h))
+      upTo-next (inputRules lines) reads n (unfed-below n (le-of-lt h))
       ∙ row n true (lowest .below n h)
 
   unfed-here : low < 16 → unfed (low + 1) ≡ some (19, low + 1)
   unfed-here h =
       rw (add-one low)
-      (upTo-next (inputRules lines) (λ (i : ℕ). siteAt file (14 + 11 * i)) low (unfed-below low (le-refl low))
+      (upTo-next (inputRules lines) reads low (unfed-below low (le-refl low))
       ∙ row low false (lowest .here h))
 
-  pub lowest-unfed : (s : ℕ) → s ≤ 16 → cond (ltb low s) (some (19, low + 1)) none ≡ firstBroken (each (inputRules lines) 1 (sitesOf file s))
-  unfolding sitesOf
+  pub lowest-unfed : (s : ℕ) → s ≤ mostSites → cond (ltb low s) (some (19, low + 1)) none ≡ firstBroken (each (inputRules lines) 1 (listOf reads s))
   lowest-unfed s h = by (ltb low s) refl
     where
       by : (b : Bool) → ltb low s ≡ b → cond b (some (19, low + 1)) none ≡ unfed s
       by true e =
           let l = ltb-true low s e in
-          sym (upTo-stays (inputRules lines) (λ (i : ℕ). siteAt file (14 + 11 * i)) (low + 1) s (omega arith) (unfed-here (omega arith)))
+          sym (upTo-stays (inputRules lines) reads (low + 1) s (omega arith) (unfed-here (omega arith)))
       by false e = sym (unfed-below s (ltb-false low s e))

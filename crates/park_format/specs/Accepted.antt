@@ -6,8 +6,9 @@ use mathlib.Core.Path.{_≡_}
 use mathlib.Core.Bool.{true, false}
 use mathlib.Core.List.{List, [], _∷_}
 use lib.ListN.{length}
+use Rattle.park_format.specs.Limits.{months, mostDiscount, mostEerp, mostFlag, mostInstalled, mostLines, mostMark, mostPower, mostPrice, mostReading, mostSites}
 use Rattle.park_format.specs.Park.{Park, parkOf, inputs}
-use Rattle.park_format.specs.Rules.{IsAccepted, parkMark, mostHours, sizeOf, measuresReactive, measuresGenerated, measuresNight, isEmpty}
+use Rattle.park_format.specs.Rules.{IsAccepted, hasDevices, parkMark, mostHours, sizeOf, measuresReactive, measuresGenerated, measuresNight, isEmpty}
 use Rattle.park_format.specs.declared.header.Header.{Header}
 use Rattle.park_format.specs.declared.site.Site.{Site}
 use Rattle.park_format.specs.declared.line.Line.{Line}
@@ -16,21 +17,21 @@ use Rattle.park_format.specs.declared.line.Line.{Line}
 pub record KeptHeader (bytes : ℕ) (h : Header) : Type 0 where
   pub mark : h .mark ≡ parkMark
   pub version : h .version ≡ 1
-  pub month : (1 ≤ h .month) × (h .month ≤ 12)
-  pub sites : (1 ≤ h .sites) × (h .sites ≤ 16)
-  pub lines : (1 ≤ h .lines) × (h .lines ≤ 64)
-  pub price : (1 ≤ h .price) × (h .price ≤ 2000000)
+  pub month : (1 ≤ h .month) × (h .month ≤ months)
+  pub sites : (1 ≤ h .sites) × (h .sites ≤ mostSites)
+  pub lines : (1 ≤ h .lines) × (h .lines ≤ mostLines)
+  pub price : (1 ≤ h .price) × (h .price ≤ mostPrice)
   pub hours : h .hours ≤ mostHours (h .month)
   pub size : bytes ≡ sizeOf h
 
 -- 10 to 13
 pub record KeptSite (x : Site) : Type 0 where
-  pub power : (1 ≤ x .power) × (x .power ≤ 1000000)
-  pub devices : x .devices ≤ 1
-  pub compensation : x .compensation ≤ 20000
-  pub motors : x .motors ≤ 20000
-  pub withoutDevices : x .devices ≡ 0 → (x .compensation ≡ 0) × (x .motors ≡ 0)
-  pub discount : x .discount ≤ 1000
+  pub power : (1 ≤ x .power) × (x .power ≤ mostPower)
+  pub devices : x .devices ≤ mostFlag
+  pub compensation : x .compensation ≤ mostInstalled
+  pub motors : x .motors ≤ mostInstalled
+  pub withoutDevices : hasDevices x ≡ false → (x .compensation ≡ 0) × (x .motors ≡ 0)
+  pub discount : x .discount ≤ mostDiscount
 
 -- 14 to 18, in a park of s sites
 pub record KeptLine (s : ℕ) (l : Line) : Type 0 where
@@ -38,13 +39,13 @@ pub record KeptLine (s : ℕ) (l : Line) : Type 0 where
   pub to : l .to ≤ s
   pub notBothNetwork : l .from ≡ 0 → l .to ≡ 0 → ⊥
   pub forward : (l .from ≡ 0 → ⊥) → (l .to ≡ 0 → ⊥) → l .from < l .to
-  pub meters : l .meters ≤ 7
+  pub meters : l .meters ≤ mostMark
   pub nightGenerated : measuresNight (l .meters) ≡ true → measuresGenerated (l .meters) ≡ true
-  pub eerp : (1 ≤ l .eerp) × (l .eerp ≤ 5000)
-  pub active : l .active ≤ 10000000
-  pub reactive : l .reactive ≤ 10000000
-  pub generated : l .generated ≤ 10000000
-  pub night : l .night ≤ 10000000
+  pub eerp : (1 ≤ l .eerp) × (l .eerp ≤ mostEerp)
+  pub active : l .active ≤ mostReading
+  pub reactive : l .reactive ≤ mostReading
+  pub generated : l .generated ≤ mostReading
+  pub night : l .night ≤ mostReading
   pub unmeteredReactive : measuresReactive (l .meters) ≡ false → l .reactive ≡ 0
   pub unmeteredGenerated : measuresGenerated (l .meters) ≡ false → l .generated ≡ 0
   pub unmeteredNight : measuresNight (l .meters) ≡ false → l .night ≡ 0

@@ -1,5 +1,8 @@
-pub mod Number
+pub mod Limits
+pub mod Format
+pub mod Made
 pub mod Park
 pub mod Rules
+pub mod Cut
 pub mod Accepted
-pub mod Set
+pub mod Inner

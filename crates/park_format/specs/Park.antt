@@ -1,71 +1,80 @@
 -- The park file as values (01, "The park file"): a header, a list of sites and a list of lines.
 -- Assumes nothing.
-use Prim.Native.Nat.{ℕ, zero, suc, _+_, _*_}
+use Prim.Native.Nat.{ℕ, zero, suc, _<_}
+use mathlib.Core.Path.{_≡_}
 use mathlib.Core.Bool.{Bool, cond}
 use mathlib.Core.List.{List, [], _∷_, _++_}
 use lib.Dec.{eqb}
-use Rattle.park_format.specs.Number.{byte, number2, number3, number4}
+use lib.ListN.{getD}
+use Rattle.park_format.specs.Format.{fieldsAt, headerWidths, lineStart, lineWidths, siteStart, siteWidths}
 use Rattle.park_format.specs.declared.header.Header.{Header}
 use Rattle.park_format.specs.declared.site.Site.{Site}
 use Rattle.park_format.specs.declared.line.Line.{Line}
 
--- bytes 0 to 2 the mark; 3 to 4 version; 5 month; 6 number of sites; 7 number of lines; 8 to 11 price; 12 to 13 hours
+-- a record from its numbers, in the order of the file
+abbrev pub headerFrom : List ℕ → Header
+headerFrom xs =
+    record {
+      mark = getD xs 0 0;
+      version = getD xs 1 0;
+      month = getD xs 2 0;
+      sites = getD xs 3 0;
+      lines = getD xs 4 0;
+      price = getD xs 5 0;
+      hours = getD xs 6 0;
+    }
+
+abbrev pub siteFrom : List ℕ → Site
+siteFrom xs =
+    record {
+      power = getD xs 0 0;
+      devices = getD xs 1 0;
+      compensation = getD xs 2 0;
+      motors = getD xs 3 0;
+      discount = getD xs 4 0;
+    }
+
+abbrev pub lineFrom : List ℕ → Line
+lineFrom xs =
+    record {
+      from = getD xs 0 0;
+      to = getD xs 1 0;
+      meters = getD xs 2 0;
+      eerp = getD xs 3 0;
+      active = getD xs 4 0;
+      reactive = getD xs 5 0;
+      generated = getD xs 6 0;
+      night = getD xs 7 0;
+    }
+
+-- the header of a file, and the site and the line that begin at a position
 unfoldable pub headerOf : List ℕ → Header
-headerOf file =
-    record {
-      mark = number3 file 0;
-      version = number2 file 3;
-      month = byte file 5;
-      sites = byte file 6;
-      lines = byte file 7;
-      price = number4 file 8;
-      hours = number2 file 12;
-    }
+headerOf file = headerFrom (fieldsAt headerWidths file 0)
 
--- power (4 bytes), flag (1), compensation (2), motors (2), discount (2)
 unfoldable pub siteAt : List ℕ → ℕ → Site
-siteAt file at =
-    record {
-      power = number4 file at;
-      devices = byte file (at + 4);
-      compensation = number2 file (at + 5);
-      motors = number2 file (at + 7);
-      discount = number2 file (at + 9);
-    }
+siteAt file at = siteFrom (fieldsAt siteWidths file at)
 
--- from (1) and to (1), where 0 is the network, meter mark (1), EERP (2), and the readings WP, WQ, WG, WN (4 each)
 unfoldable pub lineAt : List ℕ → ℕ → Line
-lineAt file at =
-    record {
-      from = byte file at;
-      to = byte file (at + 1);
-      meters = byte file (at + 2);
-      eerp = number2 file (at + 3);
-      active = number4 file (at + 5);
-      reactive = number4 file (at + 9);
-      generated = number4 file (at + 13);
-      night = number4 file (at + 17);
-    }
+lineAt file at = lineFrom (fieldsAt lineWidths file at)
+
+-- site i and line i of a file with that header, counted from 0; a site does not ask the header, which another version of the file may need
+unfoldable pub siteOf : Header → List ℕ → ℕ → Site
+siteOf h file i = siteAt file (siteStart i)
+
+unfoldable pub lineOf : Header → List ℕ → ℕ → Line
+lineOf h file i = lineAt file (lineStart (h .sites) i)
 
 -- n values, the i-th of them at i, counted from 0
 unfoldable pub listOf {ℓ} : {A : Type ℓ} → (ℕ → A) → ℕ → List A
 listOf f zero = []
 listOf f (suc n) = listOf f n ++ (f n ∷ [])
 
--- s site records of 11 bytes after the 14 of the header
-unfoldable pub sitesOf : List ℕ → ℕ → List Site
-sitesOf file s = listOf (λ (i : ℕ). siteAt file (14 + 11 * i)) s
-
--- n line records of 21 bytes after the sites
-unfoldable pub linesOf : List ℕ → ℕ → ℕ → List Line
-linesOf file s n = listOf (λ (i : ℕ). lineAt file (14 + 11 * s + 21 * i)) n
-
 -- the values of a list that pass a test, in their order
 unfoldable pub select {ℓ} : {A : Type ℓ} → (A → Bool) → List A → List A
 select test [] = []
 select test (x ∷ xs) = cond (test x) (x ∷ select test xs) (select test xs)
 
--- a line is an input of its `to` site and a transit of its `from` site
+-- the lines that go to site k, its inputs, and those that come from it, its transits
 abbrev pub inputs : ℕ → List Line → List Line
 inputs k lines = select (λ (l : Line). eqb (l .to) k) lines
 
@@ -81,8 +90,19 @@ pub record Park : Type 0 where
 -- the park of a file: as many sites and lines as its header says
 unfoldable pub parkOf : List ℕ → Park
 parkOf file =
-    record {
-      header = headerOf file;
-      sites = sitesOf file (headerOf file .sites);
-      lines = linesOf file (headerOf file .sites) (headerOf file .lines);
-    }
+    let h = headerOf file in
+    record { header = h; sites = listOf (siteOf h file) (h .sites); lines = listOf (lineOf h file) (h .lines) }
+
+-- no park has these: what stands for a site or a line past the last
+abbrev pub noSite : Site
+noSite = siteFrom []
+
+abbrev pub noLine : Line
+noLine = lineFrom []
+
+-- a record that is read by its index is that entry of the park (`site-entry` and `line-entry` of proofs/Entries.antt)
+abbrev pub SiteEntry : Type 0
+SiteEntry = (file : List ℕ) (i : ℕ) → i < headerOf file .sites → getD (parkOf file .sites) i noSite ≡ siteOf (headerOf file) file i
+
+abbrev pub LineEntry : Type 0
+LineEntry = (file : List ℕ) (i : ℕ) → i < headerOf file .lines → getD (parkOf file .lines) i noLine ≡ lineOf (headerOf file) file i

@@ -1,14 +1,16 @@
 -- The rules of the park file (01, "Where each thing is checked"): the table row by row, and the refusal that it puts first.
 -- A file is accepted when no row is broken. No other condition refuses.
 -- Assumes nothing.
-use Prim.Native.Nat.{ℕ, suc, _+_, _*_, _-_, _/_, _%_}
+use Prim.Native.Nat.{ℕ, suc, _-_, _/_, _%_}
 use mathlib.Core.Path.{_≡_}
 use mathlib.Core.Bool.{Bool, true, false, cond, not, _&&_, _||_}
 use mathlib.Core.List.{List, [], _∷_, _++_}
 use mathlib.Core.Option.{Option, none, some}
 use lib.Dec.{ltb, leb, eqb}
 use lib.ListN.{length, getD}
-use Rattle.park_format.specs.Park.{Park, parkOf, inputs}
+use Rattle.park_format.specs.Format.{fileSize, headerSize}
+use Rattle.park_format.specs.Limits.{months, mostDiscount, mostEerp, mostFlag, mostInstalled, mostLines, mostMark, mostPower, mostPrice, mostReading, mostSites}
+use Rattle.park_format.specs.Park.{Park, headerOf, inputs, parkOf}
 use Rattle.park_format.specs.declared.header.Header.{Header}
 use Rattle.park_format.specs.declared.site.Site.{Site}
 use Rattle.park_format.specs.declared.line.Line.{Line}
@@ -24,6 +26,10 @@ pub data Row : Type 0 where
 unfoldable pub firstBroken : List Row → Option (ℕ × ℕ)
 firstBroken [] = none
 firstBroken (rule number place broken ∷ rows) = cond broken (some (number, place)) (firstBroken rows)
+
+-- a rule's number, 0 for none, with a place
+abbrev pub refusalAt : ℕ → ℕ → Option (ℕ × ℕ)
+refusalAt number place = cond (eqb number 0) none (some (number, place))
 
 -- number and place of each case of the reply; `none` is accepted
 abbrev pub refusalOf : Verdict → Option (ℕ × ℕ)
@@ -44,7 +50,7 @@ zeroOrAbove most x = eqb x 0 || ltb most x
 
 -- 8: a month's most hours; 0 for a number that is no month
 unfoldable pub mostHours : ℕ → ℕ
-mostHours month = cond (zeroOrAbove 12 month) 0 (getD monthHours (month - 1) 0)
+mostHours month = cond (zeroOrAbove months month) 0 (getD monthHours (month - 1) 0)
 
 -- 15 and 18: the meters that a mark is the sum of: 1 reactive consumption, 2 generation, 4 night-valley generation. Active consumption
 -- is always metered, and has none
@@ -57,42 +63,46 @@ measuresGenerated mark = eqb (mark / 2 % 2) 1
 abbrev pub measuresNight : ℕ → Bool
 measuresNight mark = eqb (mark / 4 % 2) 1
 
+-- 12, and steps 6 and 9: the flag says that compensation or generating devices exist
+abbrev pub hasDevices : Site → Bool
+hasDevices x = not (eqb (x .devices) 0)
+
 -- 9: 14 + 11s + 21n
 abbrev pub sizeOf : Header → ℕ
-sizeOf h = 14 + 11 * h .sites + 21 * h .lines
+sizeOf h = fileSize (h .sites) (h .lines)
 
--- 1: header
-abbrev pub startRules : ℕ → List Row
-startRules bytes = rule 1 0 (ltb bytes 14) ∷ []
+-- 1: too short for a header
+abbrev pub startRules : Bool → List Row
+startRules short = rule 1 0 short ∷ []
 
 -- 2 to 9: header and length
-unfoldable pub headerRules : ℕ → Header → List Row
-headerRules bytes h =
+unfoldable pub headerRules : Bool → Header → List Row
+headerRules wrongLength h =
     rule 2 0 (not (eqb (h .mark) parkMark))
     ∷ rule 3 0 (not (eqb (h .version) 1))
-    ∷ rule 4 0 (zeroOrAbove 12 (h .month))
-    ∷ rule 5 0 (zeroOrAbove 16 (h .sites))
-    ∷ rule 6 0 (zeroOrAbove 64 (h .lines))
-    ∷ rule 7 0 (zeroOrAbove 2000000 (h .price))
+    ∷ rule 4 0 (zeroOrAbove months (h .month))
+    ∷ rule 5 0 (zeroOrAbove mostSites (h .sites))
+    ∷ rule 6 0 (zeroOrAbove mostLines (h .lines))
+    ∷ rule 7 0 (zeroOrAbove mostPrice (h .price))
     ∷ rule 8 0 (ltb (mostHours (h .month)) (h .hours))
-    ∷ rule 9 0 (not (eqb bytes (sizeOf h)))
+    ∷ rule 9 0 wrongLength
     ∷ []
 
 -- 12, of one of Q and P: above 20,000, or not 0 while the flag is 0
-abbrev pub wrongDevice : ℕ → ℕ → Bool
-wrongDevice flag x = ltb 20000 x || (eqb flag 0 && not (eqb x 0))
+abbrev pub wrongDevice : Site → ℕ → Bool
+wrongDevice x installed = ltb mostInstalled installed || (not (hasDevices x) && not (eqb installed 0))
 
 -- 12: Q or P breaks it
 abbrev pub wrongDevices : Site → Bool
-wrongDevices x = wrongDevice (x .devices) (x .compensation) || wrongDevice (x .devices) (x .motors)
+wrongDevices x = wrongDevice x (x .compensation) || wrongDevice x (x .motors)
 
 -- 10 to 13: one site
 unfoldable pub siteRules : ℕ → Site → List Row
 siteRules k x =
-    rule 10 k (zeroOrAbove 1000000 (x .power))
-    ∷ rule 11 k (ltb 1 (x .devices))
+    rule 10 k (zeroOrAbove mostPower (x .power))
+    ∷ rule 11 k (ltb mostFlag (x .devices))
     ∷ rule 12 k (wrongDevices x)
-    ∷ rule 13 k (ltb 1000 (x .discount))
+    ∷ rule 13 k (ltb mostDiscount (x .discount))
     ∷ []
 
 -- 14: an end above s
@@ -113,11 +123,11 @@ wrongEnds s l = endAbove s l || (bothNetwork l || backwards l)
 
 -- 15: mark above 7, or holding 4 without 2
 abbrev pub wrongMeters : ℕ → Bool
-wrongMeters mark = ltb 7 mark || (measuresNight mark && not (measuresGenerated mark))
+wrongMeters mark = ltb mostMark mark || (measuresNight mark && not (measuresGenerated mark))
 
 -- 17: a reading above 10,000,000
 abbrev pub readingAbove : Line → Bool
-readingAbove l = ltb 10000000 (l .active) || (ltb 10000000 (l .reactive) || (ltb 10000000 (l .generated) || ltb 10000000 (l .night)))
+readingAbove l = ltb mostReading (l .active) || (ltb mostReading (l .reactive) || (ltb mostReading (l .generated) || ltb mostReading (l .night)))
 
 -- 18: a reading not 0 without its meter
 abbrev pub withoutMeter : Bool → ℕ → Bool
@@ -136,7 +146,7 @@ unfoldable pub lineRules : ℕ → ℕ → Line → List Row
 lineRules s k l =
     rule 14 k (wrongEnds s l)
     ∷ rule 15 k (wrongMeters (l .meters))
-    ∷ rule 16 k (zeroOrAbove 5000 (l .eerp))
+    ∷ rule 16 k (zeroOrAbove mostEerp (l .eerp))
     ∷ rule 17 k (readingAbove l)
     ∷ rule 18 k (wrongReadings l)
     ∷ []
@@ -155,23 +165,29 @@ unfoldable pub each {ℓ} : {A : Type ℓ} → (ℕ → A → List Row) → ℕ 
 each rules k [] = []
 each rules k (x ∷ xs) = rules k x ++ each rules (suc k) xs
 
--- the whole table of a park, read from a file of that many bytes: header and length, site by site, line by line, the park
-unfoldable pub rulesOf : ℕ → Park → List Row
-rulesOf bytes p =
-    (startRules bytes ++ headerRules bytes (p .header))
+-- the whole table of a park: header and length, site by site, line by line, the park. What it is read from says whether it is too short
+-- for a header, and whether its length is wrong
+unfoldable pub rulesOf : Bool → Bool → Park → List Row
+rulesOf short wrongLength p =
+    (startRules short ++ headerRules wrongLength (p .header))
     ++ (each siteRules 1 (p .sites)
     ++ (each (lineRules (p .header .sites)) 1 (p .lines)
     ++ each (inputRules (p .lines)) 1 (p .sites)))
 
--- before the lines: the first broken row of header and length, and of the sites
-unfoldable pub headRefusal : List ℕ → Option (ℕ × ℕ)
-headRefusal file =
-    let p = parkOf file in
-    firstBroken ((startRules (length file) ++ headerRules (length file) (p .header)) ++ each siteRules 1 (p .sites))
+-- 1 and 9, of a file
+abbrev pub isShort : List ℕ → Bool
+isShort file = ltb (length file) headerSize
+
+abbrev pub hasWrongLength : List ℕ → Bool
+hasWrongLength file = not (eqb (length file) (sizeOf (headerOf file)))
+
+-- the table of a file
+unfoldable pub fileRules : List ℕ → List Row
+fileRules file = rulesOf (isShort file) (hasWrongLength file) (parkOf file)
 
 -- the refusal of a file: its first broken row
 unfoldable pub refusal : List ℕ → Option (ℕ × ℕ)
-refusal file = firstBroken (rulesOf (length file) (parkOf file))
+refusal file = firstBroken (fileRules file)
 
 -- accepted: no row is broken
 abbrev pub IsAccepted : List ℕ → Type 0

@@ -1,4 +1,4 @@
-// The check of a whole park file.
+// A whole park file: its records by their index, and its check.
 use crate::fed;
 use crate::header::Header;
 use crate::line::Line;
@@ -6,48 +6,76 @@ use crate::rule::Refusal;
 use crate::rule::Verdict;
 use crate::site::Site;
 ghost use mathlib.Core.Path.{_≡_};
-ghost use Prim.Native.Nat.{_+_, _*_, _≤_};
+ghost use Prim.Native.Nat.{_<_};
 ghost use lib.ListN.{length};
-ghost use Rattle.park_format.specs.Park.{sitesOf, linesOf};
-ghost use Rattle.park_format.specs.Rules.{refusalOf, headRefusal, refusal, firstBroken, each, siteRules, lineRules};
-ghost use Rattle.park_format.specs.Set.{Walks};
+ghost use Rattle.park_format.specs.Inner.Set.{Walks};
+ghost use Rattle.park_format.specs.Inner.Sized.{Sized};
+ghost use Rattle.park_format.specs.Park.{lineOf, listOf, siteOf};
+ghost use Rattle.park_format.specs.Rules.{refusalOf, refusal, firstBroken, each, siteRules, lineRules};
 
 // What the walk over the lines finds: a broken rule, or the sites that have an input.
-pub enum Walked {
+enum Walked {
     Refused(Refusal),
     Fed(u16),
 }
 
-// The first broken rule of the sites, in their order; accepted if none is broken.
-fn check_sites(file: &[u8], sites: usize) -> Verdict
-    requires { ⌜ (sites ≤ 16) × (14 + 11 * sites ≤ length (now file)) ⌝ }
-    ensures { λ r. ⌜ refusalOf r ≡ firstBroken (each siteRules 1 (sitesOf (now (file .entry)) sites)) ⌝ }
+// Site i of a file that is as long as its header says, counted from 0.
+pub fn site_of(file: &[u8], header: Header, i: usize) -> Site
+    requires sized { ⌜ Sized header (length (now file)) ⌝ }
+    requires there { ⌜ i < header .sites ⌝ }
+    ensures { λ r. ⌜ r ≡ siteOf header (now (file .entry)) i ⌝ }
 {
-    let mut i = 0;
-    while i < sites {
-        let verdict = Site::read(file, Header::LEN + Site::LEN * i).check(i as u32 + 1);
-        if let Verdict::Refused(r) = verdict {
-            return Verdict::Refused(r);
+    Site::read(file, Header::LEN + Site::LEN * i)
+}
+
+// Line i of a file that is as long as its header says, counted from 0.
+pub fn line_of(file: &[u8], header: Header, i: usize) -> Line
+    requires sized { ⌜ Sized header (length (now file)) ⌝ }
+    requires there { ⌜ i < header .lines ⌝ }
+    ensures { λ r. ⌜ r ≡ lineOf header (now (file .entry)) i ⌝ }
+{
+    Line::read(
+        file,
+        Header::LEN + Site::LEN * (header.sites as usize) + Line::LEN * i,
+    )
+}
+
+// The first broken rule of the sites, in their order; accepted if none is broken.
+fn check_sites(file: &[u8], header: Header) -> Verdict
+    requires { ⌜ Sized header (length (now file)) ⌝ }
+    ensures { λ r. ⌜ refusalOf r ≡ firstBroken (each siteRules 1 (listOf (siteOf header (now (file .entry))) (header .sites))) ⌝ }
+{
+    let sites = header.sites as usize;
+    let mut k = 0;
+    while k < sites {
+        let number = site_of(file, header, k).broken();
+        if number != 0 {
+            return Verdict::Refused(Refusal {
+                number,
+                place: k as u32 + 1,
+            });
         }
-        i += 1;
+        k += 1;
     }
     Verdict::Accepted
 }
 
 // The first broken rule of the lines, in their order, or, if none is broken, the sites that they go to.
-fn check_lines(file: &[u8], sites: u8, lines: usize) -> Walked
-    requires counts { ⌜ (sites ≤ 16) × (lines ≤ 64) ⌝ }
-    requires within { ⌜ 14 + 11 * sites + 21 * lines ≤ length (now file) ⌝ }
-    ensures { λ r. ⌜ Walks r (firstBroken (each (lineRules sites) 1 (linesOf (now (file .entry)) sites lines))) (linesOf (now (file .entry)) sites lines) ⌝ }
+fn check_lines(file: &[u8], header: Header) -> Walked
+    requires { ⌜ Sized header (length (now file)) ⌝ }
+    ensures { λ r. ⌜ Walks r (firstBroken (each (lineRules (header .sites)) 1 (listOf (lineOf header (now (file .entry))) (header .lines)))) (listOf (lineOf header (now (file .entry))) (header .lines)) ⌝ }
 {
-    let at = Header::LEN + Site::LEN * (sites as usize);
+    let lines = header.lines as usize;
     let mut fed: u16 = 0;
     let mut i = 0;
     while i < lines {
-        let line = Line::read(file, at + Line::LEN * i);
-        let verdict = line.check(sites, i as u32 + 1);
-        if let Verdict::Refused(r) = verdict {
-            return Walked::Refused(r);
+        let line = line_of(file, header, i);
+        let number = line.broken(header.sites);
+        if number != 0 {
+            return Walked::Refused(Refusal {
+                number,
+                place: i as u32 + 1,
+            });
         }
         fed = fed::with(fed, line.to);
         i += 1;
@@ -55,9 +83,9 @@ fn check_lines(file: &[u8], sites: u8, lines: usize) -> Walked
     Walked::Fed(fed)
 }
 
-// The rules that come before the lines: those of the header, of the length and of the sites. It takes bytes of any number.
-pub fn check_head(file: &[u8]) -> Verdict
-    ensures { λ r. ⌜ refusalOf r ≡ headRefusal (now (file .entry)) ⌝ }
+// Whether a file keeps the rules, or the first that it breaks and where. It takes bytes of any number.
+pub fn check(file: &[u8]) -> Verdict
+    ensures { λ r. ⌜ refusalOf r ≡ refusal (now (file .entry)) ⌝ }
 {
     if file.len() < Header::LEN {
         return Verdict::Refused(Refusal {
@@ -66,22 +94,15 @@ pub fn check_head(file: &[u8]) -> Verdict
         });
     }
     let header = Header::read(file);
-    if let Verdict::Refused(r) = header.check(file.len()) {
+    let number = header.broken(file.len() != header.size());
+    if number != 0 {
+        return Verdict::Refused(Refusal { number, place: 0 });
+    }
+    if let Verdict::Refused(r) = check_sites(file, header) {
         return Verdict::Refused(r);
     }
-    check_sites(file, header.sites as usize)
-}
-
-// Whether a file keeps the rules, or the first that it breaks and where. It takes bytes of any number.
-pub fn check(file: &[u8]) -> Verdict
-    ensures { λ r. ⌜ refusalOf r ≡ refusal (now (file .entry)) ⌝ }
-{
-    if let Verdict::Refused(r) = check_head(file) {
-        return Verdict::Refused(r);
-    }
-    let header = Header::read(file);
-    match check_lines(file, header.sites, header.lines as usize) {
+    match check_lines(file, header) {
         Walked::Refused(r) => Verdict::Refused(r),
-        Walked::Fed(fed) => fed::unfed(fed, header.sites, Verdict::Accepted),
+        Walked::Fed(fed) => fed::check(fed, header.sites),
     }
 }

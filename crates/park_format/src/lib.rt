@@ -1,11 +1,11 @@
 // The park file: its records, its rules, and the check of a whole file.
-pub mod fed;
+mod fed;
 pub mod file;
 pub mod header;
 pub mod line;
+pub mod meter;
 mod number;
 pub mod rule;
 pub mod site;
 
 pub use file::check;
-pub use file::check_head;

@@ -1,8 +1,6 @@
-// What a check answers, and tests that several rules share.
+// What a check answers, and a test that several rules share.
 ghost use mathlib.Core.Path.{_≡_};
-ghost use mathlib.Core.Bool.{cond};
-ghost use mathlib.Core.Option.{some};
-ghost use Rattle.park_format.specs.Rules.{refusalOf, zeroOrAbove};
+ghost use Rattle.park_format.specs.Rules.{zeroOrAbove};
 
 pub struct Refusal {
     // The rule's number, and the place: a site or a line counted from 1, else 0.
@@ -15,23 +13,9 @@ pub enum Verdict {
     Refused(Refusal),
 }
 
-// The refusal of a row of the table that is broken, else what the rows after it say.
-pub fn first(broken: bool, number: u32, place: u32, rest: Verdict) -> Verdict
-    ensures { λ r. ⌜ refusalOf r ≡ cond broken (some (number, place)) (refusalOf rest) ⌝ }
-{
-    if broken {
-        Verdict::Refused(Refusal { number, place })
-    } else {
-        rest
-    }
-}
-
 // Whether x is 0 or above the most that it may be.
 pub fn zero_or_above(most: u32, x: u32) -> bool
     ensures { λ r. ⌜ r ≡ zeroOrAbove most x ⌝ }
 {
-    if x == 0 {
-        return true;
-    }
-    most < x
+    (x == 0) | (most < x)
 }

@@ -1,24 +1,26 @@
 // A site record of a park file, and its rules.
 use crate::number;
 use crate::rule;
-use crate::rule::Verdict;
 ghost use mathlib.Core.Path.{_≡_};
-ghost use Prim.Native.Nat.{_+_, _≤_};
+ghost use mathlib.Core.Bool.{cond};
+ghost use Prim.Native.Nat.{ℕ, _+_, _≤_};
 ghost use lib.ListN.{length};
+ghost use Rattle.park_format.specs.Format.{siteSize};
+ghost use Rattle.park_format.specs.Limits.{mostInstalled};
 ghost use Rattle.park_format.specs.Park.{siteAt};
-ghost use Rattle.park_format.specs.Rules.{refusalOf, firstBroken, siteRules, wrongDevice, wrongDevices};
+ghost use Rattle.park_format.specs.Rules.{refusalAt, firstBroken, hasDevices, siteRules, wrongDevices};
 
 pub struct Site {
     // Permitted power, kW.
     pub power: u32,
     // The flag: 1 if compensation or generating devices exist, else 0.
-    pub devices: u8,
+    pub devices: u32,
     // Installed compensation Q, kVAr.
-    pub compensation: u16,
+    pub compensation: u32,
     // High-voltage synchronous motors P, kW.
-    pub motors: u16,
+    pub motors: u32,
     // The discount h, thousandths.
-    pub discount: u16,
+    pub discount: u32,
 }
 
 impl Site {
@@ -28,66 +30,68 @@ impl Site {
     // Limits of rules 10 to 13.
     pub const MOST_POWER: u32 = 1_000_000;
 
-    pub const MOST_DEVICES: u8 = 1;
+    pub const MOST_FLAG: u32 = 1;
 
-    pub const MOST_INSTALLED: u16 = 20_000;
+    pub const MOST_INSTALLED: u32 = 20_000;
 
-    pub const MOST_DISCOUNT: u16 = 1_000;
+    pub const MOST_DISCOUNT: u32 = 1_000;
 
     // The record that starts at a position, all of it within the file.
     pub fn read(file: &[u8], at: usize) -> Site
-        requires { ⌜ at + 11 ≤ length (now file) ⌝ }
+        requires { ⌜ at + siteSize ≤ length (now file) ⌝ }
         ensures { λ r. ⌜ r ≡ siteAt (now (file .entry)) at ⌝ }
     {
         Site {
             power: number::four(file, at),
-            devices: file[at + 4],
+            devices: number::one(file, at + 4),
             compensation: number::two(file, at + 5),
             motors: number::two(file, at + 7),
             discount: number::two(file, at + 9),
         }
     }
 
-    // Rule 12 of one of Q and P: above its most, or not 0 while there are no devices.
-    fn wrong_device(devices: u8, installed: u16) -> bool
-        ensures { λ r. ⌜ r ≡ wrongDevice devices installed ⌝ }
+    // Whether compensation or generating devices exist.
+    pub fn has_devices(self) -> bool
+        ensures { λ r. ⌜ r ≡ hasDevices self ⌝ }
     {
-        if Site::MOST_INSTALLED < installed {
-            return true;
-        }
-        if devices == 0 {
-            return installed != 0;
-        }
-        false
+        self.devices != 0
     }
 
-    // Rule 12: Q or P breaks it.
+    // The most that Q and P may be: 0 where there are no devices.
+    fn most_installed(self) -> u32
+        ensures { λ r. ⌜ r ≡ cond (hasDevices self) mostInstalled 0 ⌝ }
+    {
+        if self.has_devices() {
+            Site::MOST_INSTALLED
+        } else {
+            0
+        }
+    }
+
+    // Rule 12: Q or P is above its most.
     fn wrong_devices(self) -> bool
         ensures { λ r. ⌜ r ≡ wrongDevices self ⌝ }
     {
-        if Site::wrong_device(self.devices, self.compensation) {
-            return true;
-        }
-        Site::wrong_device(self.devices, self.motors)
+        let most = self.most_installed();
+        (most < self.compensation) | (most < self.motors)
     }
 
-    // The first broken rule of the site at a place, which is its number.
-    pub fn check(self, place: u32) -> Verdict
-        ensures { λ r. ⌜ refusalOf r ≡ firstBroken (siteRules place self) ⌝ }
+    // The number of the first rule that the site breaks; 0 if it breaks none.
+    pub fn broken(self) -> u32
+        ensures { λ r. ⌜ ((place : ℕ) → refusalAt r place ≡ firstBroken (siteRules place self)) ⌝ }
     {
-        let discount = rule::first(
-            Site::MOST_DISCOUNT < self.discount,
-            13,
-            place,
-            Verdict::Accepted,
-        );
-        let installed = rule::first(self.wrong_devices(), 12, place, discount);
-        let devices = rule::first(Site::MOST_DEVICES < self.devices, 11, place, installed);
-        rule::first(
-            rule::zero_or_above(Site::MOST_POWER, self.power),
-            10,
-            place,
-            devices,
-        )
+        if rule::zero_or_above(Site::MOST_POWER, self.power) {
+            return 10;
+        }
+        if Site::MOST_FLAG < self.devices {
+            return 11;
+        }
+        if self.wrong_devices() {
+            return 12;
+        }
+        if Site::MOST_DISCOUNT < self.discount {
+            return 13;
+        }
+        0
     }
 }

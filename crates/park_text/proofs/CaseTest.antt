@@ -8,35 +8,34 @@ use mathlib.Core.Option.{Option, none, some}
 use lib.Dec.{eqb}
 use lib.IntN.{ℤ, pos, negsuc}
 use borrow.Author.Tests.{eqb-true, eq-eqb, ne-eqb}
-use Rattle.park_format.specs.Park.{headerOf, lineAt, linesOf, listOf, parkOf, select, siteAt, sitesOf}
-use Rattle.park_format.specs.Rules.{each, firstBroken, headerRules, inputRules, lineRules, measuresReactive, mostHours, refusal, rulesOf, siteRules}
+use Rattle.park_format.proofs.Tests.{and-both}
+use Rattle.park_format.specs.Park.{headerOf, lineAt, lineOf, listOf, parkOf, select, siteAt, siteOf}
+use Rattle.park_format.specs.Format.{fieldsAt, numberAt}
+use Rattle.park_format.specs.Rules.{each, fileRules, firstBroken, headerRules, inputRules, lineRules, measuresReactive, mostHours, refusal, rulesOf, siteRules}
 use Rattle.park_format.specs.Accepted.{Every}
 use Rattle.park_format.specs.declared.line.Line.{Line}
 use Rattle.park_charge.specs.Rounding.{rounded}
-use Rattle.park_charge.specs.Flow.{inflow, outflow, tangent}
-use Rattle.park_charge.specs.Losses.{cut, settled}
+use Rattle.park_charge.specs.Flow.{estimatedOut, inflow, outflow, tangent}
+use Rattle.park_charge.specs.Losses.{aboveZero, cut}
 use Rattle.park_charge.specs.Generation.{computedGeneration}
-use Rattle.park_charge.specs.Charge.{computedCharge, discount, lossCharge, reason, surcharge}
-use Rattle.park_bill.specs.Sums.{allOf, overSites, sumBy, EachSite}
+use Rattle.park_charge.specs.Charge.{computedCharge, discount, lossCharge, reason, surcharge, surchargeFactor}
+use Rattle.park_sums.specs.Sums.{allOf, overSites, sumBy, EachSite}
+use Rattle.park_bill.specs.Balance.{MeasuredBetween}
 use Rattle.park_bill.specs.Bill.{consumptionOf, generationCharge, generationOf, tangentOf, weightedSum}
 use Rattle.park_bill.specs.Reply.{billsOf, refusalWith}
 use Rattle.park_text.specs.Answer.{answerTo}
 use Rattle.park_text.specs.Ascii.{ascii}
 use Rattle.park_text.specs.Text.{billText, decimal, digitsWithin, fieldsText, namesText, refusalText, siteText, sitesText}
 use Rattle.park_text.specs.Cases.{accepts, agree, AllCases, Case, cases, equal, holds, measuredLine, numbers, same, Says, Whether}
-use Rattle.park_text.specs.Cases.Case.{balanceCase, chargeCase, printed, reasonCase, surchargeCase, tangentCase, wholeBill}
+use Rattle.park_text.specs.Cases.Case.{balanceCase, chargeCase, fileCase, printed, reasonCase, surchargeCase, tangentCase, wholeBill}
 use Rattle.park_bill.proofs.Balances.{over-cong, over-none, over-zero}
 
 -- the test
 all-hold : allOf holds cases ≡ true
-unfolding holds headerOf lineAt linesOf listOf parkOf select siteAt sitesOf each firstBroken headerRules inputRules lineRules mostHours refusal rulesOf siteRules rounded inflow outflow tangent cut settled computedGeneration computedCharge discount lossCharge reason surcharge allOf sumBy consumptionOf generationCharge generationOf tangentOf weightedSum billsOf refusalWith overSites answerTo decimal digitsWithin billText namesText sitesText siteText fieldsText refusalText
+unfolding holds fieldsAt numberAt headerOf lineAt lineOf listOf parkOf select siteAt siteOf each fileRules firstBroken headerRules inputRules lineRules mostHours refusal rulesOf siteRules rounded inflow estimatedOut outflow tangent aboveZero cut computedGeneration computedCharge discount lossCharge reason surcharge surchargeFactor allOf sumBy consumptionOf generationCharge generationOf tangentOf weightedSum billsOf refusalWith overSites answerTo decimal digitsWithin billText namesText sitesText siteText fieldsText refusalText
 all-hold = refl
 
 -- what each part of the test means
-and-true : (a b : Bool) → (a && b) ≡ true → (a ≡ true) × (b ≡ true)
-and-true true b e = (refl, e)
-and-true false b e = absurd (true≢false (sym e))
-
 accepts-is : (o : Option (ℕ × ℕ)) → accepts o ≡ true → o ≡ none
 accepts-is none e = refl
 accepts-is (some r) e = absurd (true≢false (sym e))
@@ -45,7 +44,7 @@ same-is : (xs ys : List ℕ) → same xs ys ≡ true → xs ≡ ys
 same-is [] [] e = refl
 same-is [] (y ∷ ys) e = absurd (true≢false (sym e))
 same-is (x ∷ xs) [] e = absurd (true≢false (sym e))
-same-is (x ∷ xs) (y ∷ ys) e = let h = and-true (eqb x y) (same xs ys) e in ap₂ (λ (a : ℕ) (l : List ℕ). a ∷ l) (eqb-true x y (h .0)) (same-is xs ys (h .1))
+same-is (x ∷ xs) (y ∷ ys) e = let h = and-both (eqb x y) (same xs ys) e in ap₂ (λ (a : ℕ) (l : List ℕ). a ∷ l) (eqb-true x y (h .0)) (same-is xs ys (h .1))
 
 equal-is : (y z : ℤ) → equal y z ≡ true → y ≡ z
 equal-is (pos a) (pos b) e = ap pos (eqb-true a b e)
@@ -63,9 +62,6 @@ whether true test so test-of e = so e
 whether false true so test-of e = absurd (true≢false (sym e))
 whether false false so test-of e = λ a. true≢false (sym (test-of a))
 
-abbrev Metered : Line → Type 0
-Metered l = (l .from ≡ 0 → ⊥) → (l .to ≡ 0 → ⊥) → measuresReactive (l .meters) ≡ true
-
 -- a line's test, by its three parts
 parts : (f t m : Bool) → (f || (t || m)) ≡ true → f ≡ false → t ≡ false → m ≡ true
 parts f t m e p q = cc
@@ -75,10 +71,10 @@ parts-true true t m h = refl
 parts-true false true m h = refl
 parts-true false false m h = h refl refl
 
-metered : (l : Line) → measuredLine l ≡ true → Metered l
+metered : (l : Line) → measuredLine l ≡ true → MeasuredBetween l
 metered l e f t = parts (eqb (l .from) 0) (eqb (l .to) 0) (measuresReactive (l .meters)) e (ne-eqb (l .from) 0 f) (ne-eqb (l .to) 0 t)
 
-line-test : (l : Line) → Metered l → measuredLine l ≡ true
+line-test : (l : Line) → MeasuredBetween l → measuredLine l ≡ true
 line-test l m =
     parts-true (eqb (l .from) 0) (eqb (l .to) 0) (measuresReactive (l .meters))
     (λ f t. m (λ e. true≢false (sym (eq-eqb (l .from) 0 e) ∙ f)) (λ e. true≢false (sym (eq-eqb (l .to) 0 e) ∙ t)))
@@ -86,14 +82,14 @@ line-test l m =
 both-true : {a b : Bool} → a ≡ true → b ≡ true → (a && b) ≡ true
 both-true p q = cc
 
-measured-is : (lines : List Line) → allOf measuredLine lines ≡ true → Every Metered lines
+measured-is : (lines : List Line) → allOf measuredLine lines ≡ true → Every MeasuredBetween lines
 unfolding allOf
 measured-is [] e = tt
 measured-is (l ∷ lines) e =
-    let h = and-true (measuredLine l) (allOf measuredLine lines) e in
+    let h = and-both (measuredLine l) (allOf measuredLine lines) e in
     (metered l (h .0), measured-is lines (h .1))
 
-is-measured : (lines : List Line) → Every Metered lines → allOf measuredLine lines ≡ true
+is-measured : (lines : List Line) → Every MeasuredBetween lines → allOf measuredLine lines ≡ true
 unfolding allOf
 is-measured [] m = refl
 is-measured (l ∷ lines) m = both-true (line-test l (m .0)) (is-measured lines (m .1))
@@ -111,20 +107,21 @@ is-uncut f n uncut = eq-eqb _ 0 (over-cong f (λ (k : ℕ). 0) n uncut ∙ over-
 entry : (c : Case) → holds c ≡ true → Says c
 unfolding holds
 entry (wholeBill file list settled network) e =
-    let a = and-true _ _ e in
-    let b = and-true _ _ (a .1) in
-    let c = and-true _ _ (b .1) in
+    let a = and-both _ _ e in
+    let b = and-both _ _ (a .1) in
+    let c = and-both _ _ (b .1) in
     (accepts-is (refusal file) (a .0), (same-is _ list (b .0), (eqb-true _ settled (c .0), equal-is _ (pos network) (c .1))))
+entry (fileCase file bytes) e = same-is file bytes e
 entry (printed file text) e = same-is _ (ascii text) e
 entry (tangentCase wq wp tg) e = eqb-true _ tg e
 entry (surchargeCase tg pc p2) e = eqb-true _ p2 e
 entry (chargeCase product pc) e = eqb-true _ pc e
 entry (reasonCase c g r) e = eqb-true _ r e
 entry (balanceCase file energy measured balanced uncut) e =
-    let a = and-true _ _ e in
-    let b = and-true _ _ (a .1) in
-    let c = and-true _ _ (b .1) in
-    let d = and-true _ _ (c .1) in (
+    let a = and-both _ _ e in
+    let b = and-both _ _ (a .1) in
+    let c = and-both _ _ (b .1) in
+    let d = and-both _ _ (c .1) in (
       accepts-is (refusal file) (a .0),
       (
         equal-is _ energy (b .0),
@@ -141,7 +138,7 @@ entry (balanceCase file energy measured balanced uncut) e =
 entries : (cs : List Case) → allOf holds cs ≡ true → Every Says cs
 unfolding allOf
 entries [] e = tt
-entries (c ∷ cs) e = let h = and-true (holds c) (allOf holds cs) e in (entry c (h .0), entries cs (h .1))
+entries (c ∷ cs) e = let h = and-both (holds c) (allOf holds cs) e in (entry c (h .0), entries cs (h .1))
 
 -- 01's cases are so
 pub all-cases : AllCases

@@ -8,7 +8,8 @@ use mathlib.Core.Path.{_≡_, sym, ap, ap₂, _∙_}
 use mathlib.Core.List.{List, [], _∷_, _++_}
 use lib.ListN.{length, take, drop, getD, set, length-append}
 use lib.Seq.{sets, sets-eq, length-sets, take-suc}
-use Rattle.park_text.specs.Put.{Put, Starts}
+use Rattle.park_text.specs.Buffer.{Starts}
+use Rattle.park_text.specs.Inner.Put.{Put}
 
 sets-append : (l : List ℕ) (at : ℕ) (a b : List ℕ) → sets (sets l at a) (at + length a) b ≡ sets l at (a ++ b)
 sets-append l at [] b = ap (λ (i : ℕ). sets l i b) (add-zero at)

@@ -8,7 +8,8 @@ use mathlib.Core.List.{List, [], _∷_, _++_, append-assoc, append-nil}
 use borrow.Author.Tests.{le-ltb}
 use lib.ListN.{length, take, drop, getD, length-append}
 use Rattle.park_format.specs.Accepted.{Every}
-use Rattle.park_bill.proofs.Parks.{every-snoc}
+use Rattle.park_format.proofs.Lists.{every-snoc}
+use Rattle.park_bill.specs.Bill.{billNumbers}
 use Rattle.park_text.specs.Text.{billText, decimal, digit, digitsWithin, fieldsText, namesText, newline, refusalText, siteText, sitesText}
 use Rattle.park_text.specs.Laws.{BillReadsBack, FirstDigit, IsDigit, numbersAfter, numbersIn, OnlyDigits, PrintsApart, ReadsBack, RefusalReadsBack, sitesIn, SomeDigit, value, valueAfter}
 use Rattle.park_text.proofs.Digits.{more-within, one-digit, small-within}
@@ -128,7 +129,7 @@ sites-read : (n : ℕ) (list rest : List ℕ) → numbersIn (sitesText n list ++
 unfolding sitesText sitesIn
 sites-read zero list rest = refl
 sites-read (suc n) list rest =
-    let numbers = take 11 (drop (11 * n) list) in
+    let numbers = take billNumbers (drop (billNumbers * n) list) in
     ap numbersIn (append-assoc (sitesText n list) (siteText (suc n) numbers) rest)
     ∙ sites-read n list (siteText (suc n) numbers ++ rest)
     ∙ ap (λ (t : List ℕ). sitesIn n list ++ t) (site-read (suc n) numbers rest)
@@ -145,5 +146,5 @@ refusal-reads-back number place =
 pub bill-reads-back : BillReadsBack
 unfolding billText namesText numbersAfter
 bill-reads-back s list =
-    let n = min s (length list / 11) in
+    let n = min s (length list / billNumbers) in
     ap numbersIn (sym (append-nil (sitesText n list))) ∙ sites-read n list [] ∙ append-nil (sitesIn n list)

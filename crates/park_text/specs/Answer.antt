@@ -1,19 +1,22 @@
 -- What parkbill prints for a file: its bill, or its refusal; and what this comes to for every file.
 -- Assumes nothing.
-use Prim.Native.Nat.{ℕ, _<_}
+use Prim.Native.Nat.{ℕ, _*_, _<_}
 use mathlib.Core.Logic.{_⊎_, inl, inr}
 use mathlib.Core.Path.{_≡_}
 use mathlib.Core.List.{List, _++_}
 use mathlib.Core.Option.{some}
 use lib.ListN.{replicate, take}
+use Rattle.park_format.specs.Cut.{longest}
+use Rattle.park_format.specs.Limits.{mostSites}
 use Rattle.park_format.specs.Park.{parkOf}
 use Rattle.park_format.specs.Rules.{IsAccepted, refusal}
+use Rattle.park_bill.specs.Bill.{billNumbers}
 use Rattle.park_bill.specs.Reply.{billsOf, listAfter, parkOutcome}
 use Rattle.park_text.specs.Text.{billText, namesText, refusalText, sitesText}
 
--- the list that is lent: eleven zeros for each of 16 sites
+-- the list that is lent: eleven zeros for each of as many sites as a park can have
 abbrev pub unwritten : List ℕ
-unwritten = replicate 176 0
+unwritten = replicate (mostSites * billNumbers) 0
 
 -- a refusal's number and place, or a count of sites and the list
 abbrev pub answerText : (ℕ × ℕ) ⊎ ℕ → List ℕ → List ℕ
@@ -35,4 +38,4 @@ RefusedAnswer = (file : List ℕ) (number place : ℕ) → refusal file ≡ some
 
 -- a file that is cut short has the same answer, if more bytes are left than the longest accepted file has
 abbrev pub CutAnswer : Type 0
-CutAnswer = (bytes : ℕ) → 1534 < bytes → (file : List ℕ) → answerTo (take bytes file) ≡ answerTo file
+CutAnswer = (bytes : ℕ) → longest < bytes → (file : List ℕ) → answerTo (take bytes file) ≡ answerTo file

@@ -1,76 +1,56 @@
--- Park Alder and the starred cases (01, "Park Alder, and its neighbours"), as entries of one list, with what is printed for Alder
--- and for one file that is refused, and four parks that show what the condition of the loss balance is for. `holds` says of each entry whether it is so; `Says` is what it then means. `all-cases` of
--- CaseTest is the proof of `AllCases`.
+-- Park Alder, byte by byte, and the starred cases (01, "Park Alder, and its neighbours"), as entries of one list, with what is printed for
+-- Alder and for one file that is refused, and four parks that show what the condition of the loss balance is for. `holds` says of each entry
+-- whether it is so; `Says` is what it then means. `all-cases` of CaseTest is the proof of `AllCases`.
 -- Assumes nothing.
-use Prim.Native.Nat.{ℕ, _/_, _%_}
+use Prim.Native.Nat.{ℕ}
 use Prim.Native.String.{String}
 use mathlib.Core.Path.{_≡_}
 use mathlib.Core.Bool.{Bool, true, false, not, _&&_, _||_}
-use mathlib.Core.List.{List, [], _∷_, _++_}
+use mathlib.Core.List.{List, [], _∷_}
 use mathlib.Core.Option.{Option, none, some}
 use lib.Dec.{eqb}
 use lib.IntN.{ℤ, pos, negsuc, _+ℤ_}
+use Rattle.park_format.specs.Made.{fileFrom}
 use Rattle.park_format.specs.Park.{parkOf}
-use Rattle.park_format.specs.Rules.{IsAccepted, measuresReactive, refusal}
+use Rattle.park_format.specs.Rules.{IsAccepted, measuresReactive, parkMark, refusal}
 use Rattle.park_format.specs.Accepted.{Every}
 use Rattle.park_format.specs.declared.line.Line.{Line}
 use Rattle.park_charge.specs.Flow.{tangent}
 use Rattle.park_charge.specs.Charge.{lossCharge, reason, surcharge}
-use Rattle.park_bill.specs.Sums.{allOf}
+use Rattle.park_sums.specs.Sums.{allOf}
 use Rattle.park_bill.specs.Reply.{billsOf, inReply, siteOutcome}
 use Rattle.park_bill.specs.Balance.{added, AllZero, Measured, networkEnergy}
 use Rattle.park_text.specs.Answer.{answerTo}
 use Rattle.park_text.specs.Ascii.{ascii}
 
--- a park file from its numbers, in file order
-abbrev pub two : ℕ → List ℕ
-two n = n % 256 ∷ n / 256 ∷ []
-
-abbrev pub four : ℕ → List ℕ
-four n = n % 256 ∷ n / 256 % 256 ∷ n / 65536 % 256 ∷ n / 16777216 ∷ []
-
--- power, flag, Q, P, h
-abbrev pub site : ℕ → ℕ → ℕ → ℕ → ℕ → List ℕ
-site power flag q p h = four power ++ (flag ∷ []) ++ two q ++ two p ++ two h
-
--- from, to, mark, D, WP, WQ, WG, WN
-abbrev pub line : ℕ → ℕ → ℕ → ℕ → ℕ → ℕ → ℕ → ℕ → List ℕ
-line from to mark d wp wq wg wn = (from ∷ to ∷ mark ∷ []) ++ two d ++ four wp ++ four wq ++ four wg ++ four wn
-
 -- Park Alder, with a given discount of site 2, first and second line
 abbrev pub alderWith : ℕ → List ℕ → List ℕ → List ℕ
 alderWith discount first second =
-    (80 ∷ 82 ∷ 75 ∷ [])
-    ++ two 1
-    ++ (4 ∷ 2 ∷ 3 ∷ [])
-    ++ four 500000
-    ++ two 200
-    ++ site 400 1 50 0 0
-    ++ site 100 0 0 0 discount
-    ++ first
-    ++ second
-    ++ line 0 2 0 669 5000 0 0 0
+    fileFrom
+    (parkMark ∷ 1 ∷ 4 ∷ 2 ∷ 3 ∷ 500000 ∷ 200 ∷ [])
+    ((400 ∷ 1 ∷ 50 ∷ 0 ∷ 0 ∷ []) ∷ (100 ∷ 0 ∷ 0 ∷ 0 ∷ discount ∷ []) ∷ [])
+    (first ∷ second ∷ (0 ∷ 2 ∷ 0 ∷ 669 ∷ 5000 ∷ 0 ∷ 0 ∷ 0 ∷ []) ∷ [])
 
 -- with its own first line and discount
 abbrev pub alderBy : List ℕ → List ℕ
-alderBy second = alderWith 100 (line 0 1 1 669 40000 30000 0 0) second
+alderBy second = alderWith 100 (0 ∷ 1 ∷ 1 ∷ 669 ∷ 40000 ∷ 30000 ∷ 0 ∷ 0 ∷ []) second
 
 abbrev pub alder : List ℕ
-alder = alderBy (line 1 2 1 700 10000 4000 0 0)
+alder = alderBy (1 ∷ 2 ∷ 1 ∷ 700 ∷ 10000 ∷ 4000 ∷ 0 ∷ 0 ∷ [])
 
 abbrev pub alderCut : List ℕ
-alderCut = alderBy (line 1 2 1 700 10000 40000 0 0)
+alderCut = alderBy (1 ∷ 2 ∷ 1 ∷ 700 ∷ 10000 ∷ 40000 ∷ 0 ∷ 0 ∷ [])
 
 abbrev pub alderUnmetered : List ℕ
-alderUnmetered = alderBy (line 1 2 0 700 10000 0 0 0)
+alderUnmetered = alderBy (1 ∷ 2 ∷ 0 ∷ 700 ∷ 10000 ∷ 0 ∷ 0 ∷ 0 ∷ [])
 
 -- site 1 sends back more than the park takes in, and no meter tells its reactive energy
 abbrev pub alderBack : List ℕ
-alderBack = alderBy (line 1 0 0 5000 10000000 0 0 0)
+alderBack = alderBy (1 ∷ 0 ∷ 0 ∷ 5000 ∷ 10000000 ∷ 0 ∷ 0 ∷ 0 ∷ [])
 
--- site 2 with h 1,001 and line 1 with D 0
+-- a discount of 1,001 at site 2, and D 0 on line 1
 abbrev pub alderRefused : List ℕ
-alderRefused = alderWith 1001 (line 0 1 1 0 40000 30000 0 0) (line 1 2 1 700 10000 4000 0 0)
+alderRefused = alderWith 1001 (0 ∷ 1 ∷ 1 ∷ 0 ∷ 40000 ∷ 30000 ∷ 0 ∷ 0 ∷ []) (1 ∷ 2 ∷ 1 ∷ 700 ∷ 10000 ∷ 4000 ∷ 0 ∷ 0 ∷ [])
 
 -- number j of site k, as bill_site replies it, and that number added over the sites
 abbrev pub numbers : List ℕ → ℕ → ℕ → ℕ
@@ -80,6 +60,8 @@ abbrev pub total : List ℕ → ℕ → ℕ
 total file j = added (parkOf file) (numbers file) j
 
 pub data Case : Type 0 where
+  -- a file and its bytes
+  fileCase : List ℕ → List ℕ → Case
   -- a file, the numbers of all its sites, the settled energy and the energy at the network
   wholeBill : List ℕ → List ℕ → ℕ → ℕ → Case
   -- a file and what is printed for it
@@ -96,10 +78,11 @@ pub data Case : Type 0 where
   -- whether no site is cut
   balanceCase : List ℕ → ℤ → Bool → Bool → Bool → Case
 
--- 01's cases (a WP0 of 0 with and without WQ0), two answers, and the four parks
+-- Alder's bytes, 01's cases (a WP0 of 0 with and without WQ0), two answers, and the four parks
 abbrev pub cases : List Case
 cases =
-    wholeBill alder (26000 ∷ 867 ∷ 17270000 ∷ 0 ∷ 100000 ∷ 863500 ∷ 334500 ∷ 328725 ∷ 0 ∷ 1526725 ∷ 0 ∷ 8000 ∷ 533 ∷ 5476000 ∷ 0 ∷ 0 ∷ 273800 ∷ 0 ∷ 21928 ∷ 27380 ∷ 268348 ∷ 0 ∷ []) 22746000 22746000
+    fileCase alder (80 ∷ 82 ∷ 75 ∷ 1 ∷ 0 ∷ 4 ∷ 2 ∷ 3 ∷ 32 ∷ 161 ∷ 7 ∷ 0 ∷ 200 ∷ 0 ∷ 144 ∷ 1 ∷ 0 ∷ 0 ∷ 1 ∷ 50 ∷ 0 ∷ 0 ∷ 0 ∷ 0 ∷ 0 ∷ 100 ∷ 0 ∷ 0 ∷ 0 ∷ 0 ∷ 0 ∷ 0 ∷ 0 ∷ 0 ∷ 100 ∷ 0 ∷ 0 ∷ 1 ∷ 1 ∷ 157 ∷ 2 ∷ 64 ∷ 156 ∷ 0 ∷ 0 ∷ 48 ∷ 117 ∷ 0 ∷ 0 ∷ 0 ∷ 0 ∷ 0 ∷ 0 ∷ 0 ∷ 0 ∷ 0 ∷ 0 ∷ 1 ∷ 2 ∷ 1 ∷ 188 ∷ 2 ∷ 16 ∷ 39 ∷ 0 ∷ 0 ∷ 160 ∷ 15 ∷ 0 ∷ 0 ∷ 0 ∷ 0 ∷ 0 ∷ 0 ∷ 0 ∷ 0 ∷ 0 ∷ 0 ∷ 0 ∷ 2 ∷ 0 ∷ 157 ∷ 2 ∷ 136 ∷ 19 ∷ 0 ∷ 0 ∷ 0 ∷ 0 ∷ 0 ∷ 0 ∷ 0 ∷ 0 ∷ 0 ∷ 0 ∷ 0 ∷ 0 ∷ 0 ∷ 0 ∷ [])
+    ∷ wholeBill alder (26000 ∷ 867 ∷ 17270000 ∷ 0 ∷ 100000 ∷ 863500 ∷ 334500 ∷ 328725 ∷ 0 ∷ 1526725 ∷ 0 ∷ 8000 ∷ 533 ∷ 5476000 ∷ 0 ∷ 0 ∷ 273800 ∷ 0 ∷ 21928 ∷ 27380 ∷ 268348 ∷ 0 ∷ []) 22746000 22746000
     ∷ wholeBill alderCut (0 ∷ 0 ∷ 0 ∷ 7930000 ∷ 100000 ∷ 0 ∷ 334500 ∷ 0 ∷ 0 ∷ 334500 ∷ 0 ∷ 44000 ∷ 2000 ∷ 30676000 ∷ 0 ∷ 0 ∷ 1533800 ∷ 0 ∷ 4697263 ∷ 153380 ∷ 6077683 ∷ 0 ∷ []) 30676000 22746000
     ∷ tangentCase 1 2000 1
     ∷ tangentCase 0 0 800
@@ -148,6 +131,7 @@ holds (wholeBill file list settled network) =
     accepts (refusal file)
     && (same (billsOf (parkOf file) (parkOf file .header .sites)) list
     && (eqb (total file 3) settled && equal (networkEnergy (parkOf file)) (pos network)))
+holds (fileCase file bytes) = same file bytes
 holds (printed file text) = same (answerTo file) (ascii text)
 holds (tangentCase wq wp tg) = eqb (tangent wp wq) tg
 holds (surchargeCase tg pc p2) = eqb (surcharge pc tg) p2
@@ -171,6 +155,7 @@ Says (wholeBill file list settled network) =
     IsAccepted file
     × ((billsOf (parkOf file) (parkOf file .header .sites) ≡ list)
     × ((total file 3 ≡ settled) × (networkEnergy (parkOf file) ≡ pos network)))
+Says (fileCase file bytes) = file ≡ bytes
 Says (printed file text) = answerTo file ≡ ascii text
 Says (tangentCase wq wp tg) = tangent wp wq ≡ tg
 Says (surchargeCase tg pc p2) = surcharge pc tg ≡ p2

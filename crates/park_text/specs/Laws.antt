@@ -7,7 +7,8 @@ use mathlib.Core.List.{List, [], _∷_, _++_}
 use lib.Dec.{ltb}
 use lib.ListN.{length, take, drop, getD}
 use Rattle.park_format.specs.Accepted.{Every}
-use Rattle.park_text.specs.Text.{billText, decimal, refusalText}
+use Rattle.park_bill.specs.Bill.{billNumbers}
+use Rattle.park_text.specs.Text.{billText, decimal, namesText, refusalText, refusedText}
 
 -- the number that digits spell, after those that came to n
 unfoldable pub valueAfter : ℕ → List ℕ → ℕ
@@ -45,16 +46,16 @@ numbersAfter n (b ∷ rest) = cond (ltb b 48) (n ∷ numbersAfter 0 rest) (numbe
 abbrev pub numbersIn : List ℕ → List ℕ
 numbersIn text = numbersAfter 0 text
 
--- after the word `refused` and its comma: the number and the place
+-- after the word and its comma: the number and the place
 abbrev pub RefusalReadsBack : Type 0
-RefusalReadsBack = (number place : ℕ) → numbersIn (drop 8 (refusalText number place)) ≡ number ∷ place ∷ []
+RefusalReadsBack = (number place : ℕ) → numbersIn (drop (length refusedText + 1) (refusalText number place)) ≡ number ∷ place ∷ []
 
 -- each site's number and its eleven
 unfoldable pub sitesIn : ℕ → List ℕ → List ℕ
 sitesIn zero list = []
-sitesIn (suc n) list = sitesIn n list ++ (suc n ∷ take 11 (drop (11 * n) list))
+sitesIn (suc n) list = sitesIn n list ++ (suc n ∷ take billNumbers (drop (billNumbers * n) list))
 
 -- after the line of names
 abbrev pub BillReadsBack : Type 0
 BillReadsBack =
-    (s : ℕ) (list : List ℕ) → numbersIn (drop 68 (billText s list)) ≡ sitesIn (min s (length list / 11)) list
+    (s : ℕ) (list : List ℕ) → numbersIn (drop (length namesText) (billText s list)) ≡ sitesIn (min s (length list / billNumbers)) list

@@ -1,6 +1,7 @@
 pub mod Ascii
 pub mod Text
-pub mod Put
+pub mod Buffer
+pub mod Inner
 pub mod Answer
 pub mod Laws
 pub mod Cases

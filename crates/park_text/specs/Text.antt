@@ -5,6 +5,7 @@ use mathlib.Core.Bool.{cond}
 use mathlib.Core.List.{List, [], _∷_, _++_}
 use lib.Dec.{ltb}
 use lib.ListN.{length, take, drop}
+use Rattle.park_bill.specs.Bill.{billNumbers}
 use Rattle.park_text.specs.Ascii.{ascii}
 
 abbrev pub newline : ℕ
@@ -33,8 +34,11 @@ unfoldable pub fieldsText : List ℕ → List ℕ
 fieldsText [] = []
 fieldsText (n ∷ rest) = (comma ∷ decimal n) ++ fieldsText rest
 
+abbrev pub refusedText : List ℕ
+refusedText = ascii "refused"
+
 unfoldable pub refusalText : ℕ → ℕ → List ℕ
-refusalText number place = ascii "refused" ++ (fieldsText (number ∷ place ∷ []) ++ (newline ∷ []))
+refusalText number place = refusedText ++ (fieldsText (number ∷ place ∷ []) ++ (newline ∷ []))
 
 -- the line of a site: its number and its eleven
 unfoldable pub siteText : ℕ → List ℕ → List ℕ
@@ -46,8 +50,8 @@ namesText = ascii "site,consumption,tg,settled,cut,generation,pc,pg,p2,p3,total,
 -- sites 1 to n, each from its eleven numbers of the list
 unfoldable pub sitesText : ℕ → List ℕ → List ℕ
 sitesText zero list = []
-sitesText (suc n) list = sitesText n list ++ siteText (suc n) (take 11 (drop (11 * n) list))
+sitesText (suc n) list = sitesText n list ++ siteText (suc n) (take billNumbers (drop (billNumbers * n) list))
 
 -- the line of names, and then s sites, or as many as the list holds
 unfoldable pub billText : ℕ → List ℕ → List ℕ
-billText s list = namesText ++ sitesText (min s (length list / 11)) list
+billText s list = namesText ++ sitesText (min s (length list / billNumbers)) list

@@ -1,22 +1,29 @@
 // What parkbill prints, written into a lent buffer. refusal and bill answer the size of the text, the others the place after it.
 mod put;
 
+use park_bill::bill::Bill;
+use park_format::header::Header;
 use park_format::rule::Refusal;
 ghost use mathlib.Core.Path.{_≡_};
 ghost use Prim.Native.Nat.{_+_, _*_, _≤_, _<_, min};
 ghost use lib.ListN.{length};
-ghost use Rattle.park_text.specs.Put.{Put, Starts};
+ghost use Rattle.park_format.specs.Limits.{mostSites};
+ghost use Rattle.park_bill.specs.Bill.{billNumbers};
+ghost use Rattle.park_text.specs.Buffer.{Starts};
+ghost use Rattle.park_text.specs.Inner.Put.{Put};
 ghost use Rattle.park_text.specs.Text.{billText, refusalText, siteText, sitesText};
 
 // Room for every answer: the line of names has 68 bytes, and each of 16 lines at most 234.
 pub const ROOM: usize = 4096;
 
-// Eleven numbers for each of 16 sites.
-pub const NUMBERS: usize = 176;
+// As many sites as a park can have, and the numbers of their bills.
+const SITES: usize = Header::MOST_SITES as usize;
+
+pub const NUMBERS: usize = SITES * Bill::NUMBERS;
 
 // The line of a site, at most 234 bytes.
 fn site(k: u64, numbers: &[u64], at: usize, out: &mut [u8]) -> usize
-    requires short { ⌜ (k < 100) × (length (now numbers) ≤ 11) ⌝ }
+    requires short { ⌜ (k < 100) × (length (now numbers) ≤ billNumbers) ⌝ }
     requires room { ⌜ at + 234 ≤ length (now out) ⌝ }
     ensures text { λ r. ⌜ Put (siteText k (now (numbers .entry))) at (now (out .entry)) r (now (out .exit)) ⌝ }
     ensures size { λ r. ⌜ r ≤ at + 234 ⌝ }
@@ -28,8 +35,8 @@ fn site(k: u64, numbers: &[u64], at: usize, out: &mut [u8]) -> usize
 
 // The lines of sites 1 to count, each from its eleven numbers of the list.
 fn sites(count: usize, list: &[u64], at: usize, out: &mut [u8]) -> usize
-    requires few { ⌜ count ≤ 16 ⌝ }
-    requires held { ⌜ 11 * count ≤ length (now list) ⌝ }
+    requires few { ⌜ count ≤ mostSites ⌝ }
+    requires held { ⌜ billNumbers * count ≤ length (now list) ⌝ }
     requires room { ⌜ at + 234 * count ≤ length (now out) ⌝ }
     ensures text { λ r. ⌜ Put (sitesText count (now (list .entry))) at (now (out .entry)) r (now (out .exit)) ⌝ }
     ensures size { λ r. ⌜ r ≤ at + 234 * count ⌝ }
@@ -37,18 +44,22 @@ fn sites(count: usize, list: &[u64], at: usize, out: &mut [u8]) -> usize
     let mut next = at;
     let mut k = 0;
     while k < count {
-        let from = 11 * k;
-        next = site(k as u64 + 1, &list[from..from + 11], next, out);
+        let from = Bill::NUMBERS * k;
+        next = site(k as u64 + 1, &list[from..from + Bill::NUMBERS], next, out);
         k += 1;
     }
     next
 }
 
-// The list has room for 16 sites.
-fn at_most_16(count: u64) -> usize
-    ensures { λ r. ⌜ r ≡ min count 16 ⌝ }
+// The list has no room for more.
+fn at_most_the_sites(count: u64) -> usize
+    ensures { λ r. ⌜ r ≡ min count mostSites ⌝ }
 {
-    if count < 16 { count as usize } else { 16 }
+    if count < SITES as u64 {
+        count as usize
+    } else {
+        SITES
+    }
 }
 
 // Writes the text of a refusal.
@@ -70,5 +81,5 @@ pub fn bill(count: u64, list: &[u64; NUMBERS], out: &mut [u8; ROOM]) -> usize
         0,
         out,
     );
-    sites(at_most_16(count), list, next, out)
+    sites(at_most_the_sites(count), list, next, out)
 }

@@ -2,7 +2,7 @@
 ghost use mathlib.Core.List.{[], _∷_};
 ghost use Prim.Native.Nat.{_+_, _*_, _≤_, _<_};
 ghost use lib.ListN.{length};
-ghost use Rattle.park_text.specs.Put.{Put};
+ghost use Rattle.park_text.specs.Inner.Put.{Put};
 ghost use Rattle.park_text.specs.Text.{decimal, fieldsText};
 
 pub fn byte(b: u8, at: usize, out: &mut [u8]) -> usize

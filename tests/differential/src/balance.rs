@@ -3,7 +3,7 @@
 //!
 //! It is asked for when every line between two sites measures reactive consumption: any other
 //! such line has two flows, one for each end. Then the settled losses of all sites less their
-//! cuts are the energy at the network: the losses coming in less those going back. If besides no
+//! cuts are the energy at the network, what comes in less what goes back. If besides no
 //! site is cut at zero and all are payable, the printed consumption charges differ from the exact
 //! price of that energy by half a kopeck per site at most.
 

@@ -1,9 +1,9 @@
 //! The differential test program of the park bill: a calculator written from paper 01 alone, held
 //! against the product's three calls and its program parkbill.
 //!
-//! - `park_tests` runs the named cases, the refusals, the sweeps and the generated files;
+//! - `park_tests` runs the named cases, the example files, the refusals, the sweeps and the generated
+//!   files;
 //! - `park_tests self-test` holds this program to finding injected mistakes;
-//! - `park_tests examples DIR` writes the example files with their expected outputs;
 //! - `park_tests file PATH ...` compares given files, such as those of ./failures.
 //!
 //! Settings from the environment: PARK_SEED and PARK_FILES (the generated files), PARK_SAMPLE (how
@@ -54,10 +54,9 @@ fn main() -> ExitCode {
     let good = match words[..] {
         [] => run_tests(),
         ["self-test"] => self_test::run(setting("PARK_SEED", DEFAULT_SEED)),
-        ["examples", folder] => write_examples(Path::new(folder)),
         ["file", _, ..] => compare_files(&words[1..]),
         _ => {
-            println!("usage: park_tests [self-test | examples DIR | file PATH ...]");
+            println!("usage: park_tests [self-test | file PATH ...]");
             false
         }
     };
@@ -120,18 +119,8 @@ fn timed(name: &str, tester: &mut Tester, part: impl FnOnce(&mut Tester)) {
 }
 
 fn run_examples(tester: &mut Tester) {
-    for (name, file) in examples::examples() {
-        tester.file(name, &file);
-        tester.print(name, &file);
-    }
-}
-
-fn write_examples(folder: &Path) -> bool {
-    let written = examples::write(folder);
-    if let Err(error) = &written {
-        println!("{}: {error}", folder.display());
-    }
-    written.is_ok()
+    let folder = in_package("../../examples");
+    examples::run(tester, &folder).unwrap_or_else(|error| panic!("{}: {error}", folder.display()));
 }
 
 fn compare_files(paths: &[&str]) -> bool {

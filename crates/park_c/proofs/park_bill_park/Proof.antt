@@ -25,16 +25,20 @@ same-length c = search needs
 
 returns : tie.Need-returns
 returns c =
-    let e = sym (ap parkAnswer (c .before .before .before .refused .given .1)) ∙ c .before .before .before .before .before .before .before .bill-park .ensures .0 in
-    (ap numberOf e, (c .before .before .before .before .before .before .before .bill-park .ensures .1 .0, (ap placeOf e, ap sitesOf e)))
+    let called : tie.After-bill-park = search in
+    let refused : tie.After-refused = search in
+    let e = sym (ap parkAnswer (refused .refused .given .1)) ∙ called .bill-park .ensures .0 in
+    (ap numberOf e, (called .bill-park .ensures .1 .0, (ap placeOf e, (ap sitesOf e, called .bill-park .ensures .1 .1))))
 
 same-length-2 : tie.Need-same-length-2
 same-length-2 c = search needs
 
 returns-2 : tie.Need-returns-2
 returns-2 c =
-    let e = sym (ap parkAnswer (c .before .count .given .1)) ∙ c .before .before .before .before .before .bill-park .ensures .0 in
-    (ap numberOf e, (c .before .before .before .before .before .bill-park .ensures .1 .0, (ap placeOf e, ap sitesOf e)))
+    let called : tie.After-bill-park = search in
+    let billed : tie.After-count = search in
+    let e = sym (ap parkAnswer (billed .count .given .1)) ∙ called .bill-park .ensures .0 in
+    (ap numberOf e, (called .bill-park .ensures .1 .0, (ap placeOf e, (ap sitesOf e, called .bill-park .ensures .1 .1))))
 
 pub park-bill-park-spec : {M : Type 1} → statement M
 park-bill-park-spec =

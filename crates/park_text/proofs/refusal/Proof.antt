@@ -29,8 +29,10 @@ byte-requires c κs = search needs
 returns : tie.Need-returns
 unfolding refusalText
 returns c =
-    let first = c .before .before .before .before .before .bytes .ensures in
-    let second = c .before .before .fields .ensures in
+    let b : tie.After-bytes = search in
+    let f : tie.After-fields = search in
+    let first = b .bytes .ensures in
+    let second = f .fields .ensures in
     let text = put-then first (put-then (second .0) (c .byte .ensures)) in
     starts text (omega (arith, text .place, first .place, second .1, c .byte .ensures .place))
 

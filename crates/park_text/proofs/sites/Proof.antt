@@ -6,7 +6,8 @@ use borrow.Author.Needs.{needs}
 use denote.Ref.{now}
 use lib.ListN.{take, drop, length-take}
 use native.Mathlib.Nat.{le-antisymm}
-use Rattle.park_text.specs.Put.{Put}
+use Rattle.park_bill.specs.Bill.{billNumbers}
+use Rattle.park_text.specs.Inner.Put.{Put}
 use Rattle.park_text.specs.Text.{siteText, sitesText}
 use Rattle.park_text.proofs.Lines.{sites-next}
 use Rattle.park_text.proofs.Puts.{put-length, put-then}
@@ -15,16 +16,22 @@ use Rattle.park_text.proofs.sites.Tie as tie
 
 module _ (list : List ℕ) (k : ℕ) where
   abbrev part : List ℕ
-  part = take (11 * k + 11 - 11 * k) (drop (11 * k) list)
+  part = take (billNumbers * k + billNumbers - billNumbers * k) (drop (billNumbers * k) list)
 
   text-next : sitesText (k + 1) list ≡ sitesText k list ++ siteText (k + 1) part
-  text-next = sites-next list k (11 * k + 11 - 11 * k) (omega arith)
+  text-next = sites-next list k (billNumbers * k + billNumbers - billNumbers * k) (omega arith)
 
   put-site : {at next last : ℕ} {before mid after : List ℕ} → Put (sitesText k list) at before next mid → Put (siteText (k + 1) part) next mid last after → Put (sitesText (k + 1) list) at before last after
   put-site first second = rw text-next (put-then first second)
 
+-- the lines of the first k sites are written
+record Written (count : ℕ) (list : List ℕ) (at : ℕ) (before : List ℕ) (k next : ℕ) (out : List ℕ) : Type 0 where
+  within : k ≤ count
+  put : Put (sitesText k list) at before next out
+  short : next ≤ at + 234 * k
+
 abbrev Inv-loop : tie.InvT-loop
-Inv-loop count list at out₀ next₀ k₀ out next k = (k ≤ count) × (Put (sitesText k list) at out₀ next out × (next ≤ at + 234 * k))
+Inv-loop count list at out₀ next₀ k₀ out next k = Written count list at out₀ k next out
 
 abbrev μ-loop : tie.MeasureT-loop
 μ-loop count list at out₀ next₀ k₀ out next k = count - k
@@ -56,11 +63,11 @@ part-site-end c = search needs
 
 site-requires : tie.Need-site-requires Inv-loop μ-loop
 site-requires c κs =
-    let l = c .before .before .before .loop in
-    let s = c .before .before .before .before .before .before in
-    let taken = c .before .before .loop-test .taken in (
-      (omega (arith, taken, s .pre), simp length-take (omega arith)),
-      omega (arith, taken, l .inv, put-length (l .inv .1 .0), s .pre),
+    let s : tie.Start Inv-loop μ-loop = search in
+    let l : tie.At-loop Inv-loop μ-loop = search in
+    let t : tie.In-loop Inv-loop μ-loop = search in (
+      (omega (arith, t .loop-test .taken, s .pre), simp length-take (omega arith)),
+      omega (arith, t .loop-test .taken, l .loop .inv .short, put-length (l .loop .inv .put), s .pre),
     )
 
 add-k : tie.Need-add-k Inv-loop μ-loop
@@ -71,24 +78,25 @@ loop-less c = search needs
 
 loop-again : tie.Need-loop-again Inv-loop μ-loop
 loop-again c =
-    let l = c .before .before .before .before .before .before .loop in
-    let taken = c .before .before .before .before .before .loop-test .taken in (
-      omega (arith, taken),
-      (
-        put-site (now (c .before .before .before .before .before .before .before .before .before .args .list)) (l .k) (l .inv .1 .0) (c .before .before .site .ensures .0),
-        omega (arith, l .inv .1 .1, c .before .before .site .ensures .1),
-      ),
-    )
+    let w : tie.After-site Inv-loop μ-loop = search in
+    let t : tie.In-loop Inv-loop μ-loop = search in
+    let l : tie.At-loop Inv-loop μ-loop = search in
+    let s : tie.Start Inv-loop μ-loop = search in
+    record {
+      within = omega (arith, t .loop-test .taken);
+      put = put-site (now (s .args .list)) (l .loop .k) (l .loop .inv .put) (w .site .ensures .0);
+      short = omega (arith, l .loop .inv .short, w .site .ensures .1);
+    }
 
 same-length : tie.Need-same-length Inv-loop μ-loop
-same-length c = put-length (c .before .loop .inv .1 .0)
+same-length c = put-length (c .before .loop .inv .put)
 
 returns : tie.Need-returns Inv-loop μ-loop
 returns c =
+    let s : tie.Start Inv-loop μ-loop = search in
     let l = c .before .loop in
-    let s = c .before .before .before .before in
-    let end : l .k ≡ s .args .count = le-antisymm (l .inv .0) (c .loop-test .left) in
-    (subst (λ (n : ℕ). Put (sitesText n (now (s .args .list))) (s .args .at) (now (s .args .out)) (l .next) (l .out)) end (l .inv .1 .0), omega (arith, end, l .inv .1 .1))
+    let end : l .k ≡ s .args .count = le-antisymm (l .inv .within) (c .loop-test .left) in
+    (subst (λ (n : ℕ). Put (sitesText n (now (s .args .list))) (s .args .at) (now (s .args .out)) (l .next) (l .out)) end (l .inv .put), omega (arith, end, l .inv .short))
 
 pub sites-spec : {M : Type 1} → statement M
 sites-spec =

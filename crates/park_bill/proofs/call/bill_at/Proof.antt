@@ -1,36 +1,10 @@
-use mathlib.Core.Path.{_∙_}
 use native.Mathlib.Omega.{arith}
-use denote.Ref.{now}
-use Rattle.park_format.specs.Park.{parkOf}
-use Rattle.park_bill.proofs.Parks.{header-kept}
-use Rattle.park_bill.proofs.Sites.{room-of, bill-is}
+use mathlib.Core.Path.{_∙_}
+use Rattle.park_bill.proofs.Sites.{room, site-bill}
+use Rattle.park_sums.proofs.Turns.{file-sized}
 use borrow.Author.Needs.{needs}
 use Rattle.park_bill.proofs.call.bill_at.Statement.{statement}
 use Rattle.park_bill.proofs.call.bill_at.Tie as tie
-
-sub-read : tie.Need-sub-read
-sub-read c = search needs
-
-mul-read : tie.Need-mul-read
-unfolding parkOf
-mul-read c =
-    let s = c .before in
-    let h = header-kept (now (s .args .file)) (s .pre .0 .0) in
-    omega (arith, s .pre .1 .low, s .pre .1 .high)
-
-add-read : tie.Need-add-read
-unfolding parkOf
-add-read c =
-    let s = c .before in
-    let h = header-kept (now (s .args .file)) (s .pre .0 .0) in
-    omega (arith, s .pre .1 .low, s .pre .1 .high)
-
-read-requires : tie.Need-read-requires
-unfolding parkOf
-read-requires c κs =
-    let s = c .before in
-    let h = header-kept (now (s .args .file)) (s .pre .0 .0) in
-    omega (arith, s .pre .1 .low, s .pre .1 .high)
 
 cast-bill-of : tie.Need-cast-bill-of
 cast-bill-of c = search needs
@@ -38,22 +12,22 @@ cast-bill-of c = search needs
 cast-bill-of-2 : tie.Need-cast-bill-of-2
 cast-bill-of-2 c = search needs
 
+site-of-requires : tie.Need-site-of-requires
+site-of-requires c κs =
+    let s : tie.Start = search in
+    (file-sized _ (s .pre .0 .0) (s .args .header) (s .pre .0 .1), omega (arith, s .pre .1 .0))
+
 bill-of-requires : tie.Need-bill-of-requires
-unfolding parkOf
-bill-of-requires c κs = room-of (now (c .before .before .before .before .args .file)) (c .before .before .before .before .pre .0 .0) (c .before .before .before .before .args .header) (c .before .before .before .before .pre .0 .1) (c .before .before .before .before .args .k) (c .before .before .before .before .args .input) (c .before .before .before .before .args .transit) (c .before .before .before .before .args .flow) (c .before .before .before .before .pre .1) (c .before .before .read .result) _ (c .before .before .read .ensures) (omega (arith, c .before .before .before .before .pre .1 .low, c .before .before .before .before .pre .1 .high))
+bill-of-requires c κs =
+    let s : tie.Start = search in
+    room _ (s .pre .0 .0) (s .args .header) (s .pre .0 .1) (s .args .k) (s .pre .1 .0) (s .pre .1 .1) (c .site-of .result) (c .site-of .ensures)
 
 returns : tie.Need-returns
-returns c = c .bill-of .ensures ∙ bill-is (now (c .before .before .before .before .before .args .file)) (c .before .before .before .before .before .pre .0 .0) (c .before .before .before .before .before .args .header) (c .before .before .before .before .before .pre .0 .1) (c .before .before .before .before .before .args .k) (c .before .before .before .before .before .args .input) (c .before .before .before .before .before .args .transit) (c .before .before .before .before .before .args .flow) (c .before .before .before .before .before .pre .1) (c .before .before .before .read .result) (c .before .before .before .read .ensures)
+returns c =
+    let s : tie.Start = search in
+    let x : tie.After-site-of = search in
+    c .bill-of .ensures ∙ site-bill _ (s .pre .0 .0) (s .args .header) (s .pre .0 .1) (s .args .k) (s .pre .1 .0) (s .pre .1 .1) (x .site-of .result) (x .site-of .ensures)
 
 pub bill-at-spec : {M : Type 1} → statement M
 bill-at-spec =
-    tie.close
-    (tie.spec
-    sub-read
-    mul-read
-    add-read
-    read-requires
-    cast-bill-of
-    cast-bill-of-2
-    bill-of-requires
-    returns)
+    tie.close (tie.spec cast-bill-of cast-bill-of-2 site-of-requires bill-of-requires returns)

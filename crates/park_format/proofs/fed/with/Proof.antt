@@ -3,7 +3,7 @@ use native.Mathlib.Omega.{arith}
 use mathlib.Core.Path.{ap, _∙_}
 use mathlib.Core.Bool.{Bool, _||_}
 use lib.Pow.{pow-mono}
-use Rattle.park_format.specs.Set.{has}
+use Rattle.park_format.specs.Inner.Set.{has}
 use Rattle.park_format.proofs.Bits.{has-or, has-half-power, shifted}
 use borrow.Author.Needs.{needs}
 use Rattle.park_format.proofs.fed.with.Statement.{statement}

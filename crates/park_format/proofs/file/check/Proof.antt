@@ -1,42 +1,78 @@
-use native.Mathlib.Omega.{arith}
+use Prim.Native.Nat.{ℕ}
 use mathlib.Core.Path.{_≡_, sym, ap, _∙_}
-use mathlib.Core.Option.{none}
+use mathlib.Core.Bool.{not}
+use mathlib.Core.List.{List}
+use mathlib.Core.Option.{some}
 use denote.Ref.{now}
-use Rattle.park_format.specs.Park.{linesOf}
-use Rattle.park_format.specs.Rules.{headRefusal, refusalOf}
-use Rattle.park_format.proofs.Accepted.{head-kept}
-use Rattle.park_format.proofs.Verdict.{head-refused, lines-refused, inputs-decide, lowest-unfed}
+use lib.Dec.{eqb}
+use lib.ListN.{length}
+use Rattle.park_format.specs.Park.{headerOf}
+use Rattle.park_format.specs.Rules.{firstBroken, hasWrongLength, headerRules, refusal, refusalAt, refusalOf, sizeOf}
+use Rattle.park_format.specs.declared.header.Header.{Header}
+use Rattle.park_format.proofs.Rules.{passes-at, refuses-at}
+use Rattle.park_format.proofs.Verdict.{Headed, header-refused, inputs-decide, lines-refused, lowest-unfed, sites-refused, sized, too-short}
 use borrow.Author.Needs.{needs}
 use Rattle.park_format.proofs.file.check.Statement.{statement}
 use Rattle.park_format.proofs.file.check.Tie as tie
 
-check-head-requires : tie.Need-check-head-requires
-check-head-requires c κs = search needs
+-- the length that is compared is the one that the file's own header asks for
+length-test : (file : List ℕ) (h : Header) (size : ℕ) → h ≡ headerOf file → size ≡ sizeOf h → not (eqb (length file) size) ≡ hasWrongLength file
+length-test file h size read e = ap (λ (n : ℕ). not (eqb (length file) n)) (e ∙ ap sizeOf read)
+
+-- the rules of the header, as they were looked at
+module _ (b : tie.After-broken) where
+  abbrev read-stage : tie.After-read
+  read-stage = b .before .before
+
+  abbrev file : List ℕ
+  file = now (read-stage .before .before .before .args .file)
+
+  abbrev header : Header
+  header = read-stage .read .result
+
+  looked : refusalAt (b .broken .result) 0 ≡ firstBroken (headerRules (hasWrongLength file) header)
+  looked = b .broken .ensures ∙ ap (λ t. firstBroken (headerRules t header)) (length-test file header _ (read-stage .read .ensures) (b .before .size .ensures))
+
+  refused : (b .broken .result ≡ 0 → ⊥) → some (b .broken .result, 0) ≡ refusal file
+  refused h = header-refused file header (read-stage .read .ensures) (search needs) (sym (refuses-at (b .broken .result) 0 h) ∙ looked)
+
+  headed : b .broken .result ≡ 0 → Headed file header
+  headed h = record { read = read-stage .read .ensures; long = search needs; sound = sym (passes-at (b .broken .result) 0 h) ∙ looked }
+
+returns : tie.Need-returns
+returns c = too-short _ (c .if1 .taken)
+
+read-requires : tie.Need-read-requires
+read-requires c κs = search needs
+
+size-requires : tie.Need-size-requires
+size-requires c κs = search needs
+
+broken-requires : tie.Need-broken-requires
+broken-requires c κs = search needs
+
+returns-2 : tie.Need-returns-2
+returns-2 c = refused (c .before) (c .if2 .taken)
+
+check-sites-requires : tie.Need-check-sites-requires
+check-sites-requires c κs = sized _ _ (headed (c .before) (c .if2 .left))
 
 enum-known-r : tie.Need-enum-known-r
 enum-known-r c = search needs
 
-returns : tie.Need-returns
-returns c = head-refused (now (c .before .before .before .before .before .args .file)) (sym (ap refusalOf (c .before .r .given .1)) ∙ c .before .before .before .check-head .ensures)
+returns-3 : tie.Need-returns-3
+returns-3 c =
+    let e : tie.Else2 = search in
+    let w : tie.After-check-sites = search in
+    sites-refused _ _ (headed (e .before) (e .if2 .left)) (sym (ap refusalOf (c .before .r .given .1)) ∙ w .check-sites .ensures)
 
 enum-told : tie.Need-enum-told
 enum-told c = search needs
 
--- once the head is accepted
-head-accepted : (c : tie.After-enum-told) → headRefusal (now (c .before .before .before .before .args .file)) ≡ none
-head-accepted c = sym (c .before .before .check-head .ensures) ∙ ap refusalOf (c .enum-told .given .1)
-
-read-requires : tie.Need-read-requires
-read-requires c κs = head-kept _ (head-accepted c) .0
-
-cast-check-lines : tie.Need-cast-check-lines
-cast-check-lines c = search needs
-
 check-lines-requires : tie.Need-check-lines-requires
 check-lines-requires c κs =
-    let kept = head-kept _ (head-accepted (c .before .before)) .1 in
-    let read = c .before .read .ensures in
-    rw read (omega arith)
+    let e : tie.Else2 = search in
+    sized _ _ (headed (e .before) (e .if2 .left))
 
 enum-known-r-2 : tie.Need-enum-known-r-2
 enum-known-r-2 c = search needs
@@ -44,37 +80,47 @@ enum-known-r-2 c = search needs
 enum-known-fed : tie.Need-enum-known-fed
 enum-known-fed c = search needs
 
-unfed-requires : tie.Need-unfed-requires
-unfed-requires c κs = search needs
+check-requires : tie.Need-check-requires
+check-requires c κs = search needs
 
-returns-2 : tie.Need-returns-2
-returns-2 c =
-    lines-refused (now (c .before .before .before .before .before .before .before .before .before .before .args .file)) (c .before .before .before .before .before .read .result) (c .before .before .before .before .before .read .ensures) (head-accepted (c .before .before .before .before .before .before))
-    (rw (c .before .r2 .given .1) at (c .before .before .before .check-lines .ensures))
+returns-4 : tie.Need-returns-4
+returns-4 c =
+    let e : tie.Else2 = search in
+    let w : tie.After-check-sites = search in
+    let t : tie.After-enum-told = search in
+    let sites = sym (ap refusalOf (t .enum-told .given .1)) ∙ w .check-sites .ensures in
+    let l : tie.After-check-lines = search in
+    lines-refused _ _ (headed (e .before) (e .if2 .left)) sites (rw (c .before .r2 .given .1) at (l .check-lines .ensures))
 
-returns-3 : tie.Need-returns-3
-returns-3 c =
-    let file = now (c .before .before .before .before .before .before .before .before .before .before .before .args .file) in
-    let header = c .before .before .before .before .before .before .read .result in
-    let walked = rw (c .before .before .fed .given .1) at (c .before .before .before .before .check-lines .ensures) in
-    let few = head-kept file (head-accepted (c .before .before .before .before .before .before .before)) .1 .sites .1 in
-    c .unfed .ensures .decides
-    ∙ lowest-unfed file (linesOf file (header .sites) (header .lines)) _ (c .unfed .ensures .low) (walked .1) (c .unfed .ensures .lowest) (header .sites) (rw (c .before .before .before .before .before .before .read .ensures) few)
-    ∙ inputs-decide file header (c .before .before .before .before .before .before .read .ensures) (head-accepted (c .before .before .before .before .before .before .before)) (walked .0)
+returns-5 : tie.Need-returns-5
+returns-5 c =
+    let e : tie.Else2 = search in
+    let w : tie.After-check-sites = search in
+    let t : tie.After-enum-told = search in
+    let sites = sym (ap refusalOf (t .enum-told .given .1)) ∙ w .check-sites .ensures in
+    let l : tie.After-check-lines = search in
+    let head = headed (e .before) (e .if2 .left) in
+    let walked = rw (c .before .before .fed .given .1) at (l .check-lines .ensures) in
+    c .check .ensures .decides
+    ∙ lowest-unfed _ _ _ (c .check .ensures .low) (walked .1) (c .check .ensures .lowest) (header (e .before) .sites) (sized _ _ head .sites)
+    ∙ inputs-decide _ _ head sites (walked .0)
 
 pub check-spec : {M : Type 1} → statement M
 check-spec =
     tie.close
     (tie.spec
-    check-head-requires
-    enum-known-r
     returns
-    enum-told
     read-requires
-    cast-check-lines
+    size-requires
+    broken-requires
+    returns-2
+    check-sites-requires
+    enum-known-r
+    returns-3
+    enum-told
     check-lines-requires
     enum-known-r-2
     enum-known-fed
-    unfed-requires
-    returns-2
-    returns-3)
+    check-requires
+    returns-4
+    returns-5)

@@ -1,83 +1,84 @@
-use Prim.Native.Nat.{ℕ, _+_, _*_, _-_, _≤_}
-use native.Mathlib.Nat.{le-antisymm}
+use Prim.Native.Nat.{ℕ, _+_, _-_, _≤_}
 use native.Mathlib.Omega.{arith}
 use mathlib.Core.Path.{_≡_, sym, ap, _∙_}
 use mathlib.Core.List.{List}
 use mathlib.Core.Option.{none}
 use denote.Ref.{now}
+use Rattle.park_format.specs.Park.{siteOf}
+use Rattle.park_format.specs.Rules.{siteRules}
+use Rattle.park_format.specs.declared.header.Header.{Header}
+use Rattle.park_format.proofs.Rules.{passes-at, refuses-at, upTo, upTo-refused, upTo-turn, upTo-zero}
 use borrow.Author.Needs.{needs}
-use Rattle.park_format.specs.Park.{sitesOf, siteAt}
-use Rattle.park_format.specs.Rules.{siteRules, refusalOf}
-use Rattle.park_format.specs.declared.site.Site.{Site}
-use Rattle.park_format.proofs.Rules.{upTo, upTo-zero, upTo-turn, upTo-refused}
 use Rattle.park_format.proofs.file.check_sites.Statement.{statement}
 use Rattle.park_format.proofs.file.check_sites.Tie as tie
 
-abbrev reads : List ℕ → ℕ → Site
-reads file k = siteAt file (14 + 11 * k)
+-- no rule of the first k sites is broken
+record Reached (file : List ℕ) (header : Header) (sites k : ℕ) : Type 0 where
+  count : sites ≡ header .sites
+  within : k ≤ sites
+  sound : upTo siteRules (siteOf header file) k ≡ none
 
 abbrev Inv-loop : tie.InvT-loop
-Inv-loop file sites i₀ i = (i ≤ sites) × (upTo siteRules (reads file) i ≡ none)
+Inv-loop file header sites k₀ k = Reached file header sites k
 
 abbrev μ-loop : tie.MeasureT-loop
-μ-loop file sites i₀ i = sites - i
+μ-loop file header sites k₀ k = sites - k
+
+cast-sites : tie.Need-cast-sites Inv-loop μ-loop
+cast-sites c = search needs
 
 loop-holds : tie.Need-loop-holds Inv-loop μ-loop
-loop-holds c = (search needs, upTo-zero _ _)
+loop-holds c = record { count = search needs; within = search needs; sound = upTo-zero _ _ }
 
-mul-read : tie.Need-mul-read Inv-loop μ-loop
-mul-read c = search needs
+site-of-requires : tie.Need-site-of-requires Inv-loop μ-loop
+site-of-requires c κs = search needs
 
-add-read : tie.Need-add-read Inv-loop μ-loop
-add-read c = search needs
+broken-requires : tie.Need-broken-requires Inv-loop μ-loop
+broken-requires c κs = search needs
 
-read-requires : tie.Need-read-requires Inv-loop μ-loop
-read-requires c κs = search needs
+cast-t8 : tie.Need-cast-t8 Inv-loop μ-loop
+cast-t8 c = search needs
 
-cast-check : tie.Need-cast-check Inv-loop μ-loop
-cast-check c = search needs
-
-add-check : tie.Need-add-check Inv-loop μ-loop
-add-check c = search needs
-
-check-requires : tie.Need-check-requires Inv-loop μ-loop
-check-requires c κs = search needs
-
-enum-known-verdict : tie.Need-enum-known-verdict Inv-loop μ-loop
-enum-known-verdict c = search needs
+add-t9 : tie.Need-add-t9 Inv-loop μ-loop
+add-t9 c = search needs
 
 returns : tie.Need-returns Inv-loop μ-loop
-unfolding sitesOf
 returns c =
-    let file = now (c .before .before .before .before .before .before .before .before .args .file) in
-    let i = c .before .before .before .before .before .before .loop .i in
-    upTo-refused siteRules (reads file) i (c .before .before .before .before .before .before .before .before .args .sites) (omega arith)
-    (upTo-turn siteRules (reads file) i (c .before .before .before .before .before .before .loop .inv .1) (c .before .before .before .before .read .ensures) (c .before .before .before .check .ensures))
-    (ap refusalOf (c .before .verdict .given .1))
+    let s : tie.Start Inv-loop μ-loop = search in
+    let l : tie.At-loop Inv-loop μ-loop = search in
+    let r : tie.After-site-of Inv-loop μ-loop = search in
+    let b : tie.After-broken Inv-loop μ-loop = search in
+    let h = s .args .header in
+    let reads = siteOf h (now (s .args .file)) in
+    let k = l .loop .k in
+    let here = upTo-turn siteRules reads k (l .loop .inv .sound) (r .site-of .ensures) (b .broken .ensures (k + 1)) in
+    upTo-refused siteRules reads k (h .sites) (omega arith) here (refuses-at _ (k + 1) (c .if1 .taken))
 
-enum-told : tie.Need-enum-told Inv-loop μ-loop
-enum-told c = search needs
-
-add-i : tie.Need-add-i Inv-loop μ-loop
-add-i c = search needs
+add-k : tie.Need-add-k Inv-loop μ-loop
+add-k c = search needs
 
 loop-less : tie.Need-loop-less Inv-loop μ-loop
 loop-less c = search needs
 
 loop-again : tie.Need-loop-again Inv-loop μ-loop
 loop-again c =
-    let file = now (c .before .before .before .before .before .before .before .args .file) in
-    let i = c .before .before .before .before .before .loop .i in (
-      omega arith,
-      sym (upTo-turn siteRules (reads file) i (c .before .before .before .before .before .loop .inv .1) (c .before .before .before .read .ensures) (c .before .before .check .ensures))
-          ∙ ap refusalOf (c .enum-told .given .1),
-    )
+    let s : tie.Start Inv-loop μ-loop = search in
+    let l : tie.At-loop Inv-loop μ-loop = search in
+    let r : tie.After-site-of Inv-loop μ-loop = search in
+    let b : tie.After-broken Inv-loop μ-loop = search in
+    let h = s .args .header in
+    let reads = siteOf h (now (s .args .file)) in
+    let k = l .loop .k in
+    let here = upTo-turn siteRules reads k (l .loop .inv .sound) (r .site-of .ensures) (b .broken .ensures (k + 1)) in
+    record { count = search needs; within = search needs; sound = sym here ∙ passes-at _ (k + 1) (c .if1 .left) }
 
 returns-2 : tie.Need-returns-2 Inv-loop μ-loop
-unfolding sitesOf
 returns-2 c =
-    let file = now (c .before .before .before .args .file) in
-    sym (ap (upTo siteRules (reads file)) (le-antisymm (c .loop-test .left) (c .before .loop .inv .0)) ∙ c .before .loop .inv .1)
+    let s : tie.Start Inv-loop μ-loop = search in
+    let l : tie.At-loop Inv-loop μ-loop = search in
+    let h = s .args .header in
+    let end : l .loop .k ≡ h .sites = omega arith in
+    sym (ap (upTo siteRules (siteOf h (now (s .args .file)))) (sym end) ∙ l .loop .inv .sound)
 
 pub check-sites-spec : {M : Type 1} → statement M
 check-sites-spec =
@@ -85,17 +86,14 @@ check-sites-spec =
     (tie.spec
     Inv-loop
     μ-loop
+    cast-sites
     loop-holds
-    mul-read
-    add-read
-    read-requires
-    cast-check
-    add-check
-    check-requires
-    enum-known-verdict
+    site-of-requires
+    broken-requires
+    cast-t8
+    add-t9
     returns
-    enum-told
-    add-i
+    add-k
     loop-less
     loop-again
     returns-2)

@@ -1,24 +1,20 @@
-use mathlib.Core.Path.{_∙_, sym}
-use Prim.Native.Nat.{_≤_}
-use Rattle.park_format.proofs.Rules.{within}
+use Prim.Native.Nat.{ℕ, _≤_}
 use native.Mathlib.Omega.{arith}
-use Rattle.park_format.specs.Rules.{mostHours}
+use mathlib.Core.Path.{_≡_}
+use mathlib.Core.Bool.{false}
+use borrow.Author.Tests.{le-ltb, ne-eqb}
+use Rattle.park_format.specs.Limits.{months}
+use Rattle.park_format.specs.Rules.{mostHours, zeroOrAbove}
+use Rattle.park_format.proofs.Tests.{or-no}
 use borrow.Author.Needs.{needs}
 use Rattle.park_format.proofs.header.most_hours.Statement.{statement}
 use Rattle.park_format.proofs.header.most_hours.Tie as tie
 
-month-within : (c : tie.Else1) → (1 ≤ c .before .before .args .month) × (c .before .before .args .month ≤ 12)
-month-within c = within 12 _ (sym (c .before .zero-or-above .ensures) ∙ c .if1 .left)
-
-zero-or-above-requires : tie.Need-zero-or-above-requires
-zero-or-above-requires c κs = search needs
-
-returns : tie.Need-returns
-unfolding mostHours
-returns c = rw (← (c .before .zero-or-above .ensures), c .if1 .taken)
+month-is : (month : ℕ) → (1 ≤ month) × (month ≤ months) → zeroOrAbove months month ≡ false
+month-is month h = or-no _ _ (ne-eqb month 0 (λ e. omega arith)) (le-ltb months month (h .1))
 
 sub-result : tie.Need-sub-result
-sub-result c = month-within c .0
+sub-result c = search needs
 
 cast-result : tie.Need-cast-result
 cast-result c = search needs
@@ -27,20 +23,11 @@ mul-result : tie.Need-mul-result
 mul-result c = search needs
 
 array-read-result : tie.Need-array-read-result
-array-read-result c = let h = month-within c in omega arith
+array-read-result c = search needs
 
-returns-2 : tie.Need-returns-2
+returns : tie.Need-returns
 unfolding mostHours
-returns-2 c = rw (← (c .before .zero-or-above .ensures), c .if1 .left)
+returns c = rw (month-is (c .args .month) (c .pre))
 
 pub most-hours-spec : {M : Type 1} → statement M
-most-hours-spec =
-    tie.close
-    (tie.spec
-    zero-or-above-requires
-    returns
-    sub-result
-    cast-result
-    mul-result
-    array-read-result
-    returns-2)
+most-hours-spec = tie.close (tie.spec sub-result cast-result mul-result array-read-result returns)

@@ -1,22 +1,17 @@
--- Written out, so that a byte of the wrong weight is refused at this function's own promise.
+use native.Mathlib.Omega.{arith}
+use Rattle.park_format.specs.Format.{numberAt}
 use borrow.Author.Needs.{needs}
 use Rattle.park_format.proofs.number.two.Statement.{statement}
 use Rattle.park_format.proofs.number.two.Tie as tie
 
-shared-slice-read-wide : tie.Need-shared-slice-read-wide
-shared-slice-read-wide c = search needs
+one-requires : tie.Need-one-requires
+one-requires c κs = search needs
 
-wide-requires : tie.Need-wide-requires
-wide-requires c κs = search needs
+add-one : tie.Need-add-one
+add-one c = search needs
 
-add-wide : tie.Need-add-wide
-add-wide c = search needs
-
-shared-slice-read-wide-2 : tie.Need-shared-slice-read-wide-2
-shared-slice-read-wide-2 c = search needs
-
-wide-requires-2 : tie.Need-wide-requires-2
-wide-requires-2 c κs = search needs
+one-requires-2 : tie.Need-one-requires-2
+one-requires-2 c κs = search needs
 
 mul-result : tie.Need-mul-result
 mul-result c = search needs
@@ -24,22 +19,9 @@ mul-result c = search needs
 add-result : tie.Need-add-result
 add-result c = search needs
 
-cast-result : tie.Need-cast-result
-cast-result c = search needs
-
 returns : tie.Need-returns
-returns c = search needs
+unfolding numberAt
+returns c = (omega arith, omega arith)
 
 pub two-spec : {M : Type 1} → statement M
-two-spec =
-    tie.close
-    (tie.spec
-    shared-slice-read-wide
-    wide-requires
-    add-wide
-    shared-slice-read-wide-2
-    wide-requires-2
-    mul-result
-    add-result
-    cast-result
-    returns)
+two-spec = tie.close (tie.spec one-requires add-one one-requires-2 mul-result add-result returns)

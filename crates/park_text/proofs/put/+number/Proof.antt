@@ -6,7 +6,7 @@ use borrow.Author.Needs.{needs}
 use lib.ListN.{length, length-append}
 use borrow.Fn.Kinds.{In}
 use borrow.Fn.PlainCycle.{Measures, is, falls, and}
-use Rattle.park_text.specs.Put.{Put}
+use Rattle.park_text.specs.Inner.Put.{Put}
 use Rattle.park_text.specs.Text.{decimal, digit}
 use Rattle.park_text.proofs.Digits.{decimal-small, decimal-more}
 use Rattle.park_text.proofs.Puts.{put-length, put-then}
@@ -39,104 +39,71 @@ number-at t = and 1 number-kinds.ps (is 1 number-kinds.ps μ-number t) number.Pr
 abbrev number-below : ℕ → In 1 number-kinds.ps
 number-below t = and 1 number-kinds.ps (falls 1 number-kinds.ps _<_ μ-number t) number.Pre
 
-number-cast-byte : (t : ℕ) → number-lts.Need-cast-byte (
-  byte-reads.Asked,
-  byte-reads.Learnt,
-  number-below t,
-  number.Post,
-) (number-at t) number.Post
-number-cast-byte t c = search needs
+-- a call of the number t
+module _ (t : ℕ) where
+  abbrev calls : number-lts.Claims
+  calls = (byte-reads.Asked, byte-reads.Learnt, number-below t, number.Post)
 
-number-add-byte : (t : ℕ) → number-lts.Need-add-byte (
-  byte-reads.Asked,
-  byte-reads.Learnt,
-  number-below t,
-  number.Post,
-) (number-at t) number.Post
-number-add-byte t c = search needs
+  number-cast-byte : number-lts.Need-cast-byte calls (number-at t) number.Post
+  number-cast-byte c = search needs
 
-number-byte-requires : (t : ℕ) → number-lts.Need-byte-requires (
-  byte-reads.Asked,
-  byte-reads.Learnt,
-  number-below t,
-  number.Post,
-) (number-at t) number.Post
-number-byte-requires t c κs = let s = c .before .before .before in omega (arith, s .pre .1, length-small (s .args .n) (omega (arith, c .before .if1 .taken)))
+  number-add-byte : number-lts.Need-add-byte calls (number-at t) number.Post
+  number-add-byte c = search needs
 
-number-same-length : (t : ℕ) → number-lts.Need-same-length (
-  byte-reads.Asked,
-  byte-reads.Learnt,
-  number-below t,
-  number.Post,
-) (number-at t) number.Post
-number-same-length t c = put-length (c .before .before .byte .ensures)
+  number-byte-requires : number-lts.Need-byte-requires calls (number-at t) number.Post
+  number-byte-requires c κs =
+      let s : number-lts.Start calls (number-at t) number.Post = search in
+      let small : number-lts.Then1 calls (number-at t) number.Post = search in
+      omega (arith, s .pre .1, length-small (s .args .n) (omega (arith, small .if1 .taken)))
 
-number-returns : (t : ℕ) → number-lts.Need-returns (
-  byte-reads.Asked,
-  byte-reads.Learnt,
-  number-below t,
-  number.Post,
-) (number-at t) number.Post
-number-returns t c = let s = c .before .before .before .before .before .before in put-small (s .args .n) (omega (arith, c .before .before .before .before .if1 .taken)) (c .before .before .byte .ensures)
+  number-same-length : number-lts.Need-same-length calls (number-at t) number.Post
+  number-same-length c =
+      let b : number-lts.After-byte calls (number-at t) number.Post = search in
+      put-length (b .byte .ensures)
 
-number-number-requires : (t : ℕ) → number-lts.Need-number-requires (
-  byte-reads.Asked,
-  byte-reads.Learnt,
-  number-below t,
-  number.Post,
-) (number-at t) number.Post
-number-number-requires t c κs = let s = c .before .before .before in (omega (arith, s .pre .0, c .before .if1 .left), omega (arith, s .pre .1, length-more (s .args .n) (omega (arith, c .before .if1 .left))))
+  number-returns : number-lts.Need-returns calls (number-at t) number.Post
+  number-returns c =
+      let b : number-lts.After-byte calls (number-at t) number.Post = search in
+      let small : number-lts.Then1 calls (number-at t) number.Post = search in
+      let s : number-lts.Start calls (number-at t) number.Post = search in
+      put-small (s .args .n) (omega (arith, small .if1 .taken)) (b .byte .ensures)
 
-number-cast-byte-2 : (t : ℕ) → number-lts.Need-cast-byte-2 (
-  byte-reads.Asked,
-  byte-reads.Learnt,
-  number-below t,
-  number.Post,
-) (number-at t) number.Post
-number-cast-byte-2 t c = search needs
+  number-number-requires : number-lts.Need-number-requires calls (number-at t) number.Post
+  number-number-requires c κs =
+      let s : number-lts.Start calls (number-at t) number.Post = search in
+      let more : number-lts.Else1 calls (number-at t) number.Post = search in
+      (omega (arith, s .pre .0, more .if1 .left), omega (arith, s .pre .1, length-more (s .args .n) (omega (arith, more .if1 .left))))
 
-number-add-byte-2 : (t : ℕ) → number-lts.Need-add-byte-2 (
-  byte-reads.Asked,
-  byte-reads.Learnt,
-  number-below t,
-  number.Post,
-) (number-at t) number.Post
-number-add-byte-2 t c = search needs
+  number-cast-byte-2 : number-lts.Need-cast-byte-2 calls (number-at t) number.Post
+  number-cast-byte-2 c = search needs
 
-number-byte-requires-2 : (t : ℕ) → number-lts.Need-byte-requires-2 (
-  byte-reads.Asked,
-  byte-reads.Learnt,
-  number-below t,
-  number.Post,
-) (number-at t) number.Post
-number-byte-requires-2 t c κs =
-    let s = c .before .before .before .before .before .before .before in
-    let first = c .before .before .before .number .ensures in
-    omega (arith, s .pre .1, length-more (s .args .n) (omega (arith, c .before .before .before .before .before .if1 .left)), first .place, put-length first)
+  number-add-byte-2 : number-lts.Need-add-byte-2 calls (number-at t) number.Post
+  number-add-byte-2 c = search needs
 
-number-same-length-2 : (t : ℕ) → number-lts.Need-same-length-2 (
-  byte-reads.Asked,
-  byte-reads.Learnt,
-  number-below t,
-  number.Post,
-) (number-at t) number.Post
-number-same-length-2 t c = put-length (c .before .before .byte2 .ensures) ∙ put-length (c .before .before .before .before .before .before .number .ensures)
+  number-byte-requires-2 : number-lts.Need-byte-requires-2 calls (number-at t) number.Post
+  number-byte-requires-2 c κs =
+      let n : number-lts.After-number calls (number-at t) number.Post = search in
+      let more : number-lts.Else1 calls (number-at t) number.Post = search in
+      let s : number-lts.Start calls (number-at t) number.Post = search in
+      let first = n .number .ensures in
+      omega (arith, s .pre .1, length-more (s .args .n) (omega (arith, more .if1 .left)), first .place, put-length first)
 
-number-returns-2 : (t : ℕ) → number-lts.Need-returns-2 (
-  byte-reads.Asked,
-  byte-reads.Learnt,
-  number-below t,
-  number.Post,
-) (number-at t) number.Post
-number-returns-2 t c = let s = c .before .before .before .before .before .before .before .before .before .before in put-more (s .args .n) (omega (arith, c .before .before .before .before .before .before .before .before .if1 .left)) (c .before .before .before .before .before .before .number .ensures) (c .before .before .byte2 .ensures)
+  number-same-length-2 : number-lts.Need-same-length-2 calls (number-at t) number.Post
+  number-same-length-2 c =
+      let b : number-lts.After-byte2 calls (number-at t) number.Post = search in
+      let n : number-lts.After-number calls (number-at t) number.Post = search in
+      put-length (b .byte2 .ensures) ∙ put-length (n .number .ensures)
+
+  number-returns-2 : number-lts.Need-returns-2 calls (number-at t) number.Post
+  number-returns-2 c =
+      let b : number-lts.After-byte2 calls (number-at t) number.Post = search in
+      let n : number-lts.After-number calls (number-at t) number.Post = search in
+      let more : number-lts.Else1 calls (number-at t) number.Post = search in
+      let s : number-lts.Start calls (number-at t) number.Post = search in
+      put-more (s .args .n) (omega (arith, more .if1 .left)) (n .number .ensures) (b .byte2 .ensures)
 
 pub +number-spec : {M : Type 1} → statement M
-+number-spec = close μ-number λ t. number-lts.spec (
-  byte-reads.Asked,
-  byte-reads.Learnt,
-  number-below t,
-  number.Post,
-)
++number-spec = close μ-number λ t. number-lts.spec (calls t)
     (number-at t)
     number.Post
     (number-cast-byte t)

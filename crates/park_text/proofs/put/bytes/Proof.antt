@@ -6,13 +6,18 @@ use denote.Ref.{now}
 use borrow.Author.Needs.{needs}
 use lib.ListN.{length, take, length-take}
 use lib.Seq.{take-all}
-use Rattle.park_text.specs.Put.{Put}
+use Rattle.park_text.specs.Inner.Put.{Put}
 use Rattle.park_text.proofs.Puts.{put-length, put-next}
 use Rattle.park_text.proofs.put.bytes.Statement.{statement}
 use Rattle.park_text.proofs.put.bytes.Tie as tie
 
+-- the first i bytes are written
+record Written (text : List ℕ) (at : ℕ) (before : List ℕ) (i next : ℕ) (out : List ℕ) : Type 0 where
+  within : i ≤ length text
+  put : Put (take i text) at before next out
+
 abbrev Inv-loop : tie.InvT-loop
-Inv-loop text at out₀ next₀ i₀ out next i = (i ≤ length text) × Put (take i text) at out₀ next out
+Inv-loop text at out₀ next₀ i₀ out next i = Written text at out₀ i next out
 
 abbrev μ-loop : tie.MeasureT-loop
 μ-loop text at out₀ next₀ i₀ out next i = length text - i
@@ -25,9 +30,11 @@ shared-slice-read-byte c = search needs
 
 byte-requires : tie.Need-byte-requires Inv-loop μ-loop
 byte-requires c κs =
-    let l = c .before .before .before .loop in
-    let s = c .before .before .before .before .before .before in
-    omega (arith, c .before .before .loop-test .taken, l .inv .1 .place, length-take (l .i) (now (s .args .text)), put-length (l .inv .1), s .pre)
+    let s : tie.Start Inv-loop μ-loop = search in
+    let l : tie.At-loop Inv-loop μ-loop = search in
+    let t : tie.In-loop Inv-loop μ-loop = search in
+    let put = l .loop .inv .put in
+    omega (arith, t .loop-test .taken, put .place, length-take (l .loop .i) (now (s .args .text)), put-length put, s .pre)
 
 add-i : tie.Need-add-i Inv-loop μ-loop
 add-i c = search needs
@@ -37,19 +44,23 @@ loop-less c = search needs
 
 loop-again : tie.Need-loop-again Inv-loop μ-loop
 loop-again c =
-    let l = c .before .before .before .before .before .before .loop in
-    let s = c .before .before .before .before .before .before .before .before .before in
-    let taken = c .before .before .before .before .before .loop-test .taken in
-    (omega (arith, taken), put-next (λ (l : List ℕ). l) (λ a b. refl) (now (s .args .text)) (l .i) taken (l .inv .1) (c .before .before .byte .ensures))
+    let b : tie.After-byte Inv-loop μ-loop = search in
+    let t : tie.In-loop Inv-loop μ-loop = search in
+    let l : tie.At-loop Inv-loop μ-loop = search in
+    let s : tie.Start Inv-loop μ-loop = search in
+    record {
+      within = omega (arith, t .loop-test .taken);
+      put = put-next (λ (l : List ℕ). l) (λ a b. refl) (now (s .args .text)) (l .loop .i) (t .loop-test .taken) (l .loop .inv .put) (b .byte .ensures);
+    }
 
 same-length : tie.Need-same-length Inv-loop μ-loop
-same-length c = put-length (c .before .loop .inv .1)
+same-length c = put-length (c .before .loop .inv .put)
 
 returns : tie.Need-returns Inv-loop μ-loop
 returns c =
+    let s : tie.Start Inv-loop μ-loop = search in
     let l = c .before .loop in
-    let text = now (c .before .before .before .before .args .text) in
-    rw (take-all (l .i) text (c .loop-test .left)) at (l .inv .1)
+    rw (take-all (l .i) (now (s .args .text)) (c .loop-test .left)) at (l .inv .put)
 
 pub bytes-spec : {M : Type 1} → statement M
 bytes-spec =

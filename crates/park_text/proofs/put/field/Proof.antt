@@ -12,17 +12,23 @@ byte-requires c κs = search needs
 
 number-requires : tie.Need-number-requires
 number-requires c κs =
-    let s = c .before .before .before .before .before .before in
-    let first = c .before .before .before .byte .ensures in
+    let s : tie.Start = search in
+    let b : tie.After-byte = search in
+    let first = b .byte .ensures in
     omega (arith, s .pre, first .place, put-length first, length-word (s .args .n) (omega (arith, s .fits .n)))
 
 same-length : tie.Need-same-length
-same-length c = put-length (c .before .before .number .ensures) ∙ put-length (c .before .before .before .before .before .before .byte .ensures)
+same-length c =
+    let n : tie.After-number = search in
+    let b : tie.After-byte = search in
+    put-length (n .number .ensures) ∙ put-length (b .byte .ensures)
 
 returns : tie.Need-returns
 returns c =
-    let s = c .before .before .before .before .before .before .before .before .before in
-    let text = put-then (c .before .before .before .before .before .before .byte .ensures) (c .before .before .number .ensures) in
+    let n : tie.After-number = search in
+    let b : tie.After-byte = search in
+    let s : tie.Start = search in
+    let text = put-then (b .byte .ensures) (n .number .ensures) in
     (rw one-field text, omega (arith, text .place, length-word (s .args .n) (omega (arith, s .fits .n))))
 
 pub field-spec : {M : Type 1} → statement M

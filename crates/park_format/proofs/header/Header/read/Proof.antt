@@ -1,5 +1,5 @@
+use Rattle.park_format.proofs.Records.{header-of}
 use borrow.Author.Needs.{needs}
-use Rattle.park_format.specs.Park.{headerOf}
 use Rattle.park_format.proofs.header.Header.read.Statement.{statement}
 use Rattle.park_format.proofs.header.Header.read.Tie as tie
 
@@ -9,14 +9,14 @@ three-requires c κs = search needs
 two-requires : tie.Need-two-requires
 two-requires c κs = search needs
 
-shared-slice-read-t5 : tie.Need-shared-slice-read-t5
-shared-slice-read-t5 c = search needs
+one-requires : tie.Need-one-requires
+one-requires c κs = search needs
 
-shared-slice-read-t7 : tie.Need-shared-slice-read-t7
-shared-slice-read-t7 c = search needs
+one-requires-2 : tie.Need-one-requires-2
+one-requires-2 c κs = search needs
 
-shared-slice-read-t9 : tie.Need-shared-slice-read-t9
-shared-slice-read-t9 c = search needs
+one-requires-3 : tie.Need-one-requires-3
+one-requires-3 c κs = search needs
 
 four-requires : tie.Need-four-requires
 four-requires c κs = search needs
@@ -25,8 +25,7 @@ two-requires-2 : tie.Need-two-requires-2
 two-requires-2 c κs = search needs
 
 returns : tie.Need-returns
-unfolding headerOf
-returns c = cc
+returns c = rw header-of (cc)
 
 pub read-spec : {M : Type 1} → statement M
 read-spec =
@@ -34,9 +33,9 @@ read-spec =
     (tie.spec
     three-requires
     two-requires
-    shared-slice-read-t5
-    shared-slice-read-t7
-    shared-slice-read-t9
+    one-requires
+    one-requires-2
+    one-requires-3
     four-requires
     two-requires-2
     returns)

@@ -1,22 +1,22 @@
+use Rattle.park_format.proofs.Records.{line-at}
 use borrow.Author.Needs.{needs}
-use Rattle.park_format.specs.Park.{lineAt}
 use Rattle.park_format.proofs.line.Line.read.Statement.{statement}
 use Rattle.park_format.proofs.line.Line.read.Tie as tie
 
-shared-slice-read-t4 : tie.Need-shared-slice-read-t4
-shared-slice-read-t4 c = search needs
+one-requires : tie.Need-one-requires
+one-requires c κs = search needs
 
-add-t5 : tie.Need-add-t5
-add-t5 c = search needs
+add-one : tie.Need-add-one
+add-one c = search needs
 
-shared-slice-read-t7 : tie.Need-shared-slice-read-t7
-shared-slice-read-t7 c = search needs
+one-requires-2 : tie.Need-one-requires-2
+one-requires-2 c κs = search needs
 
-add-t8 : tie.Need-add-t8
-add-t8 c = search needs
+add-one-2 : tie.Need-add-one-2
+add-one-2 c = search needs
 
-shared-slice-read-t10 : tie.Need-shared-slice-read-t10
-shared-slice-read-t10 c = search needs
+one-requires-3 : tie.Need-one-requires-3
+one-requires-3 c κs = search needs
 
 add-two : tie.Need-add-two
 add-two c = search needs
@@ -49,18 +49,17 @@ four-requires-4 : tie.Need-four-requires-4
 four-requires-4 c κs = search needs
 
 returns : tie.Need-returns
-unfolding lineAt
-returns c = cc
+returns c = rw line-at (cc)
 
 pub read-spec : {M : Type 1} → statement M
 read-spec =
     tie.close
     (tie.spec
-    shared-slice-read-t4
-    add-t5
-    shared-slice-read-t7
-    add-t8
-    shared-slice-read-t10
+    one-requires
+    add-one
+    one-requires-2
+    add-one-2
+    one-requires-3
     add-two
     two-requires
     add-four

@@ -1,0 +1,63 @@
+use Prim.Native.Nat.{ℕ, _+_, _-_, _≤_}
+use native.Mathlib.Omega.{arith}
+use mathlib.Core.Path.{_≡_, sym, ap, subst, _∙_}
+use denote.Ref.{now}
+use Rattle.park_format.specs.Park.{parkOf}
+use Rattle.park_bill.specs.Bill.{bill, touching}
+use Rattle.park_bill.specs.Inner.Site.{IsSite}
+use Rattle.park_bill.proofs.Links.{made-site, tangent-room}
+use Rattle.park_sums.proofs.Nets.{net-near}
+use Rattle.park_sums.proofs.Turns.{all-few}
+use borrow.Author.Needs.{needs}
+use Rattle.park_bill.proofs.call.bill_one.Statement.{statement}
+use Rattle.park_bill.proofs.call.bill_one.Tie as tie
+
+-- site k - 1, counted from 0, is site k counted from 1
+counted : (k : ℕ) → 1 ≤ k → k - 1 + 1 ≡ k
+counted k h = omega arith
+
+site-sums-requires : tie.Need-site-sums-requires
+site-sums-requires c κs = search needs
+
+tangent-requires : tie.Need-tangent-requires
+tangent-requires c κs =
+    let s : tie.Start = search in
+    let w : tie.After-site-sums = search in
+    tangent-room (s .args .header .sites) (s .args .site) (parkOf (now (s .args .file)) .lines) (all-few _ (s .pre .0 .0) (s .args .header) (s .pre .0 .1)) (w .site-sums .ensures .net)
+
+site-after-transits-requires : tie.Need-site-after-transits-requires
+site-after-transits-requires c κs =
+    let s : tie.Start = search in
+    let w : tie.After-site-sums = search in
+    let few = all-few _ (s .pre .0 .0) (s .args .header) (s .pre .0 .1) in
+    (s .pre .0, net-near (s .args .header .sites) (s .args .site) (parkOf (now (s .args .file)) .lines) (parkOf (now (s .args .file)) .lines) few few (w .site-sums .ensures .net))
+
+sub-bill-at : tie.Need-sub-bill-at
+sub-bill-at c = search needs
+
+bill-at-requires : tie.Need-bill-at-requires
+bill-at-requires c κs =
+    let s : tie.Start = search in
+    let w : tie.After-site-sums = search in
+    let g : tie.After-tangent = search in
+    let a : tie.After-site-after-transits = search in
+    let lines = parkOf (now (s .args .file)) .lines in
+    let few = all-few _ (s .pre .0 .0) (s .args .header) (s .pre .0 .1) in
+    let made = made-site (s .args .header .sites) (s .args .site) lines few (w .site-sums .ensures .net) (a .site-after-transits .ensures) (g .tangent .ensures) (w .site-sums .ensures .inputs) (w .site-sums .ensures .transits) in
+    (s .pre .0, (omega (arith, s .pre .1), subst (λ (k : ℕ). IsSite (touching k lines) (a .site-after-transits .result) (g .tangent .result) (w .site-sums .result .«input_meters») (w .site-sums .result .«transit_meters»)) (sym (counted (s .args .site) (s .pre .1 .0))) made))
+
+returns : tie.Need-returns
+returns c =
+    let s : tie.Start = search in
+    c .bill-at .ensures ∙ ap (bill (parkOf (now (s .args .file)))) (counted (s .args .site) (s .pre .1 .0))
+
+pub bill-one-spec : {M : Type 1} → statement M
+bill-one-spec =
+    tie.close
+    (tie.spec
+    site-sums-requires
+    tangent-requires
+    site-after-transits-requires
+    sub-bill-at
+    bill-at-requires
+    returns)

@@ -1,0 +1,20 @@
+-- The records' fields by their positions, as the readers take them.
+-- Assumes nothing.
+use Prim.Native.Nat.{ℕ, _+_}
+use native.Mathlib.Nat.{add-assoc}
+use mathlib.Core.Path.{_≡_, refl}
+use mathlib.Core.List.{List}
+use Rattle.park_format.specs.Format.{numberAt, fieldsAt}
+use Rattle.park_format.specs.Park.{headerOf, siteAt, lineAt}
+
+pub header-of : (file : List ℕ) → headerOf file ≡ record { mark = numberAt 3 file 0; version = numberAt 2 file 3; month = numberAt 1 file 5; sites = numberAt 1 file 6; lines = numberAt 1 file 7; price = numberAt 4 file 8; hours = numberAt 2 file 12 }
+unfolding headerOf fieldsAt
+header-of file = refl
+
+pub site-at : (file : List ℕ) (at : ℕ) → siteAt file at ≡ record { power = numberAt 4 file at; devices = numberAt 1 file (at + 4); compensation = numberAt 2 file (at + 5); motors = numberAt 2 file (at + 7); discount = numberAt 2 file (at + 9) }
+unfolding siteAt fieldsAt
+site-at file at = simp add-assoc
+
+pub line-at : (file : List ℕ) (at : ℕ) → lineAt file at ≡ record { from = numberAt 1 file at; to = numberAt 1 file (at + 1); meters = numberAt 1 file (at + 2); eerp = numberAt 2 file (at + 3); active = numberAt 4 file (at + 5); reactive = numberAt 4 file (at + 9); generated = numberAt 4 file (at + 13); night = numberAt 4 file (at + 17) }
+unfolding lineAt fieldsAt
+line-at file at = simp add-assoc

@@ -1,0 +1,3 @@
+// What a site's lines add up to: rows of sums, and the walks over the lines of an accepted file that make them.
+pub mod row;
+pub mod walk;
