@@ -1,4 +1,4 @@
-//! That product and plain answer alike: without it their times say nothing.
+//! That product and plain answer alike of files: without it their times say nothing.
 
 use crate::calls::{Bill, Calls, Plain, Product};
 use crate::files::{Files, ALDER};

@@ -1,8 +1,8 @@
-//! The three calls, of the product and in plain Rust, behind one trait.
+//! The four calls, of the product and in plain Rust, behind one trait.
 
 use park::c;
 
-use crate::plain;
+use crate::{encode, plain};
 
 pub use crate::plain::Bill;
 
@@ -15,9 +15,13 @@ pub trait Calls {
 
     /// Bills the park into `list`, which a refusal leaves as it was; also gives the site count.
     fn bill_park(file: &[u8], list: &mut [u64], place: &mut u64, sites: &mut u64) -> u64;
+
+    /// Makes a file of `numbers` in a buffer, which a refusal leaves as it was; also gives its
+    /// length.
+    fn encode(numbers: &[u32], file: &mut [u8], place: &mut u64, size: &mut u64) -> u64;
 }
 
-/// plain.rs.
+/// plain.rs and encode.rs.
 pub struct Plain;
 
 impl Calls for Plain {
@@ -31,6 +35,10 @@ impl Calls for Plain {
 
     fn bill_park(file: &[u8], list: &mut [u64], place: &mut u64, sites: &mut u64) -> u64 {
         plain::bill_park(file, list, place, sites)
+    }
+
+    fn encode(numbers: &[u32], file: &mut [u8], place: &mut u64, size: &mut u64) -> u64 {
+        encode::encode(numbers, file, place, size)
     }
 }
 
@@ -52,5 +60,11 @@ impl Calls for Product {
         let (list_ptr, list_len) = (list.as_mut_ptr(), list.len());
         // SAFETY: as in `check`; the list's length is the slice's own.
         unsafe { c::park_bill_park(file.as_ptr(), file.len(), list_ptr, list_len, place, sites) }
+    }
+
+    fn encode(numbers: &[u32], file: &mut [u8], place: &mut u64, size: &mut u64) -> u64 {
+        let (file_ptr, file_len) = (file.as_mut_ptr(), file.len());
+        // SAFETY: as in `check`; both lengths are the slices' own.
+        unsafe { c::park_encode(numbers.as_ptr(), numbers.len(), file_ptr, file_len, place, size) }
     }
 }

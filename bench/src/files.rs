@@ -1,7 +1,9 @@
-//! Sets of accepted park files of one shape. Every random set has at least 1,024 different files,
-//! so that no branch predictor learns them by heart.
+//! Sets of accepted park files of one shape, and the lists of their numbers. Every random set has
+//! at least 1,024 different files, so that no branch predictor learns them by heart.
 
+use crate::encode::{HEADER_NUMBERS, LINE_NUMBERS, SITE_NUMBERS};
 use crate::random::Random;
+use crate::records::{Header, Line, Site};
 use crate::records::{GENERATED_METER, MONTH_HOURS, NIGHT_METER, REACTIVE_METER};
 use crate::records::{HEADER_BYTES, LINE_BYTES, MOST_EERP, MOST_READING, SITE_BYTES};
 
@@ -22,10 +24,12 @@ const MARKS: [u8; 6] = [0, 1, 2, 3, 6, 7];
 /// The two ends of Alder's lines.
 const ALDER_ENDS: [(u8, u8); 3] = [(0, 1), (1, 2), (0, 2)];
 
-/// Files of one shape, one behind the other.
+/// Files of one shape, one behind the other, and so the lists of their numbers.
 pub struct Files {
     bytes: Vec<u8>,
     file_len: usize,
+    numbers: Vec<u32>,
+    list_len: usize,
     pub sites: u64,
     pub lines: u64,
 }
@@ -68,17 +72,43 @@ impl Files {
     }
 
     fn new(bytes: Vec<u8>, sites: u8, lines: u8) -> Files {
-        let file_len = HEADER_BYTES + SITE_BYTES * sites as usize + LINE_BYTES * lines as usize;
-        Files { bytes, file_len, sites: sites as u64, lines: lines as u64 }
+        let (site_count, line_count) = (sites as usize, lines as usize);
+        let file_len = HEADER_BYTES + SITE_BYTES * site_count + LINE_BYTES * line_count;
+        let list_len = HEADER_NUMBERS + SITE_NUMBERS * site_count + LINE_NUMBERS * line_count;
+        let numbers = bytes.chunks_exact(file_len).flat_map(numbers).collect();
+        Files { bytes, file_len, numbers, list_len, sites: sites as u64, lines: lines as u64 }
     }
 
     pub fn iter(&self) -> impl Iterator<Item = &[u8]> {
         self.bytes.chunks_exact(self.file_len)
     }
 
+    /// The list of each file's numbers.
+    pub fn lists(&self) -> impl Iterator<Item = &[u32]> {
+        self.numbers.chunks_exact(self.list_len)
+    }
+
     pub fn count(&self) -> usize {
         self.bytes.len() / self.file_len
     }
+}
+
+/// The numbers of a file, in its order.
+fn numbers(file: &[u8]) -> Vec<u32> {
+    let (head, rest) = file.split_first_chunk().expect("a header");
+    let Header { month, sites, lines, price, hours, .. } = Header::read(head);
+    let mut numbers = vec![month as u32, sites as u32, lines as u32, price, hours as u32];
+    let (sites, lines) = rest.split_at(SITE_BYTES * sites as usize);
+    for site in sites.as_chunks().0.iter().map(Site::read) {
+        numbers.extend([site.power, site.flag as u32]);
+        numbers.extend([site.compensation, site.motors, site.discount].map(u32::from));
+    }
+    for line in lines.as_chunks().0.iter().map(Line::read) {
+        numbers.extend([line.from, line.to, line.meters].map(u32::from));
+        numbers.push(line.eerp as u32);
+        numbers.extend(line.readings());
+    }
+    numbers
 }
 
 /// How many files a set has: more of small ones, so that a round over them lasts long enough.

@@ -1,4 +1,4 @@
-//! Compares the time of the product's three calls with plain Rust that was written to be fast.
+//! Compares the time of the product's four calls with plain Rust that was written to be fast.
 //!
 //! How it is made fair:
 //! - Both get the same files in the same run, in rounds that take turns, and each is first in every
@@ -8,20 +8,25 @@
 //!   one codegen unit, no target-cpu). Neither is inlined into the loop that times it.
 //! - Both make the same checks: every file is first put to both, as it is, with bytes changed, cut
 //!   short and too long, and they must leave the same numbers in every call; so must files with all
-//!   numbers at their limits. Every refusal must be among the answers.
+//!   numbers at their limits. The lists of the files' numbers are put to both in the same way, also
+//!   with numbers too large for their fields, and both must make the same files. Every refusal must
+//!   be among the answers.
 //! - The plain Rust is safe Rust, written to be fast: one quick test of a line, with the rules by
 //!   number for a bad file alone; the lines of one site picked out as a set of bits; sums of 32 bits
 //!   and what follows from a meter mark looked up; a second walk over the unmetered transits alone,
 //!   a tangent without integer division and a bill without branches; the counts of a site in one
 //!   number; losses by generation as floating-point numbers, which are exact here; rows of totals
-//!   that need no aligned stack, and fewer of them to clear in a small park.
+//!   that need no aligned stack, and fewer of them to clear in a small park. How it makes a file is
+//!   told in encode.rs.
 //!
 //! A ratio is the median of the rounds' ratios: what the product takes for 1 of plain's time. The
-//! table of nine, three calls on three parks, is printed last, and below it `ratio` with that of
-//! bill_park on the largest park.
+//! table of twelve, four calls on three parks, is printed last, and below it `ratio` with that of
+//! bill_park on the largest park. The three calls on a file are timed together, encode after them.
 
 mod agree;
+mod agree_lists;
 mod calls;
+mod encode;
 mod files;
 mod measure;
 mod plain;
@@ -36,7 +41,7 @@ use random::Random;
 
 const SEED: u64 = 20_240_411;
 
-const CALLS: [(Call, &str); 3] =
+const FILE_CALLS: [(Call, &str); 3] =
     [(Call::Check, "check"), (Call::BillSite, "bill_site"), (Call::BillPark, "bill_park")];
 
 fn main() {
@@ -61,17 +66,21 @@ fn main() {
 /// numbers at their limits, and unless every refusal was among the answers.
 fn assert_agree(timed: &[&Files]) {
     agree::assert_alder();
+    agree_lists::assert_alder();
     let at_limits = [(1, 1), (1, 64), (2, 8), (3, 64), (16, 16), (16, 64)]
         .map(|(sites, lines)| Files::of_shape(Random::to_the_limits(SEED + 5), sites, lines));
     let most = Files::of_most();
-    let (mut count, mut numbers) = (0, 0);
+    let (mut count, mut of_files, mut of_lists) = (0, 0, 0);
     for files in timed.iter().copied().chain(&at_limits).chain([&most]) {
         count += files.count();
-        numbers |= agree::assert_agree(files, SEED + 6);
+        of_files |= agree::assert_agree(files, SEED + 6);
+        of_lists |= agree_lists::assert_agree(files, SEED + 7);
     }
-    assert_eq!(numbers, (1 << 22) - 1, "accepted, and refusals 1 to 21");
-    println!("product and plain agree on {count} files, and on each one damaged in four ways;");
-    println!("each of the 21 refusals was among the answers\n");
+    assert_eq!(of_files, (1 << 22) - 1, "accepted, and refusals 1 to 21");
+    let not_of_lists = [2, 3, 20, 21].iter().fold(0, |numbers, number| numbers | 1 << number);
+    assert_eq!(of_lists, ((1 << 23) - 1) ^ not_of_lists, "accepted, and the refusals of a list");
+    println!("product and plain agree on {count} files and on the lists of their numbers, and on");
+    println!("each one damaged in four ways; each of the 22 refusals was among the answers\n");
 }
 
 /// Prints how the time of bill_park grows over sets of growing shape.
@@ -85,17 +94,24 @@ fn print_growth(name: &str, sets: &[Files]) {
     println!();
 }
 
-/// Prints the three calls for each park, and gives the ratio of the last: bill_park on the largest.
+/// Prints the four calls for each park, and gives the ratio of bill_park on the last, the largest.
 fn print_calls(parks: &[(&str, Files)]) -> f64 {
-    let each = || parks.iter().flat_map(|park| CALLS.map(|call| (park, call)));
-    let cases: Vec<_> = each().map(|((_, files), (call, _))| (files, call)).collect();
-    let measured = measure(&cases);
+    let cases: Vec<_> =
+        parks.iter().flat_map(|(_, files)| FILE_CALLS.map(|(call, _)| (files, call))).collect();
+    let of_files = measure(&cases);
+    let cases: Vec<_> = parks.iter().map(|(_, files)| (files, Call::Encode)).collect();
+    let of_lists = measure(&cases);
     print_names("park", "call");
-    for (((park, _), (_, call)), times) in each().zip(&measured) {
-        print_times(park, call, times);
+    for (((park, _), of_files), of_list) in
+        parks.iter().zip(of_files.chunks_exact(FILE_CALLS.len())).zip(&of_lists)
+    {
+        for ((_, call), times) in FILE_CALLS.iter().zip(of_files) {
+            print_times(park, call, times);
+        }
+        print_times(park, "encode", of_list);
     }
     println!();
-    measured[cases.len() - 1].ratio
+    of_files[of_files.len() - 1].ratio
 }
 
 fn print_names(left: &str, right: &str) {

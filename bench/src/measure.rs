@@ -1,7 +1,7 @@
 //! Times of product and plain over sets of files, taken in turns.
 //!
-//! What is timed touches no heap: the list and the bill stand on the stack, the files were made
-//! before.
+//! What is timed touches no heap: the list, the bill and the buffer stand on the stack, the files
+//! and the lists of their numbers were made before.
 
 use std::hint::black_box;
 use std::time::Instant;
@@ -16,13 +16,15 @@ const SWEEPS: usize = 31;
 /// Rounds over a set of files in one sweep.
 const ROUNDS: usize = 21;
 
-/// Which of the three calls is timed.
+/// Which of the four calls is timed.
 #[derive(Clone, Copy)]
 pub enum Call {
     Check,
     /// The last site.
     BillSite,
     BillPark,
+    /// Of the lists of the files' numbers.
+    Encode,
 }
 
 /// Medians over the rounds: nanoseconds a park, and what the product takes for 1 of plain's.
@@ -95,6 +97,7 @@ fn round<C: Calls>(files: &Files, call: Call) -> f64 {
         Call::Check => check_all::<C>(files),
         Call::BillSite => bill_last_sites::<C>(files),
         Call::BillPark => bill_parks::<C>(files),
+        Call::Encode => encode_all::<C>(files),
     }
     start.elapsed().as_nanos() as f64 / files.count() as f64
 }
@@ -120,5 +123,15 @@ fn bill_parks<C: Calls>(files: &Files) {
     for file in files.iter() {
         black_box(C::bill_park(black_box(file), &mut list, &mut place, &mut sites));
         black_box((&mut place, &mut sites, &mut list));
+    }
+}
+
+/// Not inlined, so that its buffer is no part of the stack of the other calls.
+#[inline(never)]
+fn encode_all<C: Calls>(files: &Files) {
+    let (mut place, mut size, mut file) = (0, 0, [0; 2_048]);
+    for numbers in files.lists() {
+        black_box(C::encode(black_box(numbers), &mut file, &mut place, &mut size));
+        black_box((&mut place, &mut size, &mut file));
     }
 }

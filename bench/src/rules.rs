@@ -1,4 +1,5 @@
-//! Rules 1 to 19 for plain.rs, twice: one quick test for each record, and the rules by number.
+//! Rules 1 to 19 for plain.rs, twice: one quick test for each record, and the rules by number,
+//! which encode.rs shares.
 //!
 //! A good file takes the same way through the quick tests whatever its meters and ends are: a
 //! branch on them would be guessed wrongly half of the time. The rules by number are looked at only
@@ -146,30 +147,41 @@ pub fn first_refusal(file: &[u8]) -> Option<Refusal> {
         return Some(Refusal { number: 1, place: 0 });
     };
     let header = Header::read(head);
-    if let Some(number) = header.broken(rest.len()) {
+    let length = header.site_bytes() + header.line_bytes();
+    if let Some(number) = header.broken(rest.len() == length) {
         return Some(Refusal { number, place: 0 });
     }
     let (sites, lines) = rest.split_at(header.site_bytes());
-    for (record, place) in sites.as_chunks().0.iter().zip(1..) {
-        if let Some(number) = Site::read(record).broken() {
+    let sites = sites.as_chunks().0.iter().map(Site::read);
+    first_broken(header.sites, sites, lines.as_chunks().0.iter().map(Line::read))
+}
+
+/// The first refusal among rules 10 to 19.
+pub fn first_broken(
+    site_count: u8,
+    sites: impl Iterator<Item = Site>,
+    lines: impl Iterator<Item = Line>,
+) -> Option<Refusal> {
+    for (site, place) in sites.zip(1..) {
+        if let Some(number) = site.broken() {
             return Some(Refusal { number, place });
         }
     }
     let mut fed = 0u32;
-    for (record, place) in lines.as_chunks().0.iter().zip(1..) {
-        let line = Line::read(record);
-        if let Some(number) = line.broken(header.sites) {
+    for (line, place) in lines.zip(1..) {
+        if let Some(number) = line.broken(site_count) {
             return Some(Refusal { number, place });
         }
         fed |= 1 << line.to;
     }
-    let unfed = (1..=header.sites).find(|site| fed >> site & 1 == 0)?;
+    let unfed = (1..=site_count).find(|site| fed >> site & 1 == 0)?;
     Some(Refusal { number: 19, place: unfed as u64 })
 }
 
 impl Header {
-    /// The number of the first of rules 2 to 9 that it breaks, with so many bytes behind it.
-    fn broken(&self, bytes: usize) -> Option<u64> {
+    /// The number of the first of rules 2 to 9 that it breaks. What stands behind it has the right
+    /// length, or not.
+    pub fn broken(&self, right_length: bool) -> Option<u64> {
         if self.mark != *b"PRK" {
             return Some(2);
         }
@@ -187,7 +199,7 @@ impl Header {
             Some(7)
         } else if self.hours > most_hours {
             Some(8)
-        } else if bytes != self.site_bytes() + self.line_bytes() {
+        } else if !right_length {
             Some(9)
         } else {
             None

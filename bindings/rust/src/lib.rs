@@ -5,7 +5,7 @@
 /// consumption, tg, settled, cut, generation, Pc, Pg, P2, P3, total, reason.
 pub type Bill = [u64; 11];
 
-/// The rule that refuses a file or a call, and the site or line it speaks of, or 0.
+/// The rule that refuses a file, a list or a call, and the site or line it speaks of, or 0.
 #[derive(Clone, Copy, Debug, PartialEq, Eq)]
 pub struct Refusal {
     pub number: u64,
@@ -42,6 +42,20 @@ pub fn bill_park(file: &[u8], list: &mut [u64]) -> Result<u64, Refusal> {
     answer(number, place, sites)
 }
 
+/// Makes a park file of version 1, at the start of the buffer, from its numbers: month, s, n, T and
+/// t, then five of each site and eight of each line, in the order of the file. Gives the file's
+/// length; the bytes after it stay, and after a refusal all of them.
+pub fn encode(numbers: &[u32], file: &mut [u8]) -> Result<u64, Refusal> {
+    let (mut place, mut size) = (0, 0);
+    let (file_ptr, file_len) = (file.as_mut_ptr(), file.len());
+    // SAFETY: as in `check`; both lengths are the slices' own.
+    let number = unsafe {
+        let numbers_ptr = numbers.as_ptr();
+        c::park_encode(numbers_ptr, numbers.len(), file_ptr, file_len, &mut place, &mut size)
+    };
+    answer(number, place, size)
+}
+
 fn answer<T>(number: u64, place: u64, value: T) -> Result<T, Refusal> {
     if number == 0 {
         Ok(value)
@@ -72,6 +86,15 @@ pub mod c {
             list_len: usize,
             place: *mut u64,
             sites: *mut u64,
+        ) -> u64;
+
+        pub fn park_encode(
+            numbers_ptr: *const u32,
+            numbers_len: usize,
+            file_ptr: *mut u8,
+            file_len: usize,
+            place: *mut u64,
+            size: *mut u64,
         ) -> u64;
     }
 }

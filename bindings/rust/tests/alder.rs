@@ -1,6 +1,6 @@
 //! The safe calls on Park Alder.
 
-use park::{bill_park, bill_site, check, Refusal};
+use park::{bill_park, bill_site, check, encode, Refusal};
 
 const ALDER: &[u8] = include_bytes!("../../../examples/alder.prk");
 
@@ -18,6 +18,39 @@ fn alder_is_billed() {
     assert_eq!(list[22], 7);
     assert_eq!(bill_site(ALDER, 1).map(Vec::from), Ok(BILLS[..11].to_vec()));
     assert_eq!(bill_site(ALDER, 2).map(Vec::from), Ok(BILLS[11..].to_vec()));
+}
+
+/// Alder's numbers: the header, two sites, three lines.
+const NUMBERS: [u32; 39] = [
+    4, 2, 3, 500_000, 200, //
+    400, 1, 50, 0, 0, //
+    100, 0, 0, 0, 100, //
+    0, 1, 1, 669, 40_000, 30_000, 0, 0, //
+    1, 2, 1, 700, 10_000, 4_000, 0, 0, //
+    0, 2, 0, 669, 5_000, 0, 0, 0,
+];
+
+#[test]
+fn alder_is_made_of_its_numbers() {
+    let mut file = [7; 100];
+    assert_eq!(encode(&NUMBERS, &mut file), Ok(99));
+    assert_eq!(file[..99], *ALDER);
+    assert_eq!(file[99], 7);
+    let mut just_enough = [7; 99];
+    assert_eq!(encode(&NUMBERS, &mut just_enough), Ok(99));
+    assert_eq!(just_enough, *ALDER);
+}
+
+#[test]
+fn a_refusal_leaves_the_buffer() {
+    let mut short = [7; 98];
+    assert_eq!(encode(&NUMBERS, &mut short), Err(Refusal { number: 22, place: 0 }));
+    assert_eq!(short, [7; 98]);
+    let mut numbers = NUMBERS;
+    numbers[6] = 257;
+    let mut file = [7; 100];
+    assert_eq!(encode(&numbers, &mut file), Err(Refusal { number: 11, place: 1 }));
+    assert_eq!(file, [7; 100]);
 }
 
 #[test]

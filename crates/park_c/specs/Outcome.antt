@@ -7,7 +7,7 @@ use mathlib.Core.List.{List, []}
 use mathlib.Core.Option.{Option}
 use lib.Dec.{eqb}
 use Rattle.park_bill.specs.Bill.{words}
-use Rattle.park_bill.specs.Reply.{answer}
+use Rattle.park_format.specs.Call.{answer}
 use Rattle.park_bill.specs.declared.bill.Bill.{Bill}
 
 abbrev pub numberOf : {A : Type 0} → (ℕ × ℕ) ⊎ A → ℕ
@@ -31,7 +31,7 @@ numbersAfter (inr b) before = words b
 abbrev pub returned : ℕ → List ℕ → List ℕ
 returned number after = cond (eqb number 0) after []
 
--- the number of sites; 0 where the call refuses
-abbrev pub sitesOf : (ℕ × ℕ) ⊎ ℕ → ℕ
-sitesOf (inl refusal) = 0
-sitesOf (inr sites) = sites
+-- the number of sites, or the length of a file; 0 where the call refuses
+abbrev pub valueOf : (ℕ × ℕ) ⊎ ℕ → ℕ
+valueOf (inl refusal) = 0
+valueOf (inr value) = value

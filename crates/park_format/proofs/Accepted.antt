@@ -13,10 +13,10 @@ use Rattle.park_format.specs.Format.{headerSize}
 use Rattle.park_format.specs.Inner.Sized.{Sized}
 use Rattle.park_format.specs.Limits.{months, mostDiscount, mostEerp, mostFlag, mostInstalled, mostLines, mostMark, mostPower, mostPrice, mostReading, mostSites}
 use borrow.Author.Tests.{eqb-true, eqb-false, ltb-false, leb-false, not-false, ne-eqb, eq-eqb}
-use Rattle.park_format.specs.Park.{inputs, lineOf, parkOf, siteOf}
+use Rattle.park_format.specs.Park.{inputs, lineOf, Park, parkOf, siteOf}
 use Rattle.park_format.specs.Rules.{IsAccepted, Row, firstBroken, headerRules, siteRules, lineRules, inputRules, each, fileRules, hasDevices, hasWrongLength, isShort, rulesOf, refusal, startRules, wrongDevice, withoutMeter, measuresReactive, measuresGenerated, measuresNight, isEmpty, parkMark, sizeOf, mostHours, endAbove, bothNetwork, backwards, readingAbove, wrongDevices, wrongEnds, wrongMeters, wrongReadings}
 use Rattle.park_format.specs.Rules.Row.{rule}
-use Rattle.park_format.specs.Accepted.{KeptHeader, KeptSite, KeptLine, Every, Guarantee}
+use Rattle.park_format.specs.Accepted.{Every, Guarantee, Kept, KeptHeader, KeptLine, KeptSite}
 use Rattle.park_format.specs.declared.header.Header.{Header}
 use Rattle.park_format.specs.declared.site.Site.{Site}
 use Rattle.park_format.specs.declared.line.Line.{Line}
@@ -39,23 +39,33 @@ whole (rule n p false ∷ rows) e = (refl, whole rows e)
 equal : (a b : ℕ) → not (eqb a b) ≡ false → a ≡ b
 equal a b e = eqb-true a b (not-false (eqb a b) e)
 
+-- a header whose rules are kept: the length is right, in whatever it is counted, and each field keeps its rule
+module _ (wrongLength : Bool) (h : Header) (sound : firstBroken (headerRules wrongLength h) ≡ none) where
+  pub right-length : wrongLength ≡ false
+  unfolding headerRules
+  right-length = let w = whole (headerRules wrongLength h) sound in search
+
+  pub kept-fields : (size : ℕ) → size ≡ sizeOf h → KeptHeader size h
+  unfolding headerRules
+  kept-fields size same =
+      let w = whole (headerRules wrongLength h) sound in
+      record {
+        mark = equal (h .mark) parkMark search;
+        version = equal (h .version) 1 search;
+        month = within months (h .month) search;
+        sites = within mostSites (h .sites) search;
+        lines = within mostLines (h .lines) search;
+        price = within mostPrice (h .price) search;
+        hours = ltb-false (mostHours (h .month)) (h .hours) search;
+        size = same;
+      }
+
 pub kept-header : (size : ℕ) (h : Header) → firstBroken (headerRules (not (eqb size (sizeOf h))) h) ≡ none → KeptHeader size h
-unfolding headerRules
-kept-header size h e =
-    let w = whole (headerRules (not (eqb size (sizeOf h))) h) e in
-    record {
-      mark = equal (h .mark) parkMark search;
-      version = equal (h .version) 1 search;
-      month = within months (h .month) search;
-      sites = within mostSites (h .sites) search;
-      lines = within mostLines (h .lines) search;
-      price = within mostPrice (h .price) search;
-      hours = ltb-false (mostHours (h .month)) (h .hours) search;
-      size = equal size (sizeOf h) search;
-    }
+kept-header size h sound =
+    kept-fields (not (eqb size (sizeOf h))) h sound size (equal size (sizeOf h) (right-length (not (eqb size (sizeOf h))) h sound))
 
 pub kept-sized : {size : ℕ} {h : Header} → KeptHeader size h → Sized h size
-kept-sized k = record { sites = k .sites .1; lines = k .lines .1; size = k .size }
+kept-sized k = record { sites = k .sites .1; lines = k .lines .1; size = omega (arith, k .size) }
 
 -- rule 12 of one of Q and P
 kept-device : (x : Site) (installed : ℕ) → wrongDevice x installed ≡ false → (installed ≤ mostInstalled) × (hasDevices x ≡ false → installed ≡ 0)
@@ -143,29 +153,50 @@ fed-from lines k (suc i) (x ∷ xs) e h =
     rw (add-suc, ← suc-add)
     (fed-from lines (suc k) i xs (first-none (inputRules lines k x) (each (inputRules lines) (suc k) xs) e .1) (le-of-suc-le-suc h))
 
--- an accepted file keeps every rule
-pub kept : Guarantee
-unfolding refusal fileRules rulesOf parkOf
-kept file e =
-    let p = parkOf file in
-    let h = p .header in
-    let start = startRules (isShort file) in
-    let header = headerRules (hasWrongLength file) h in
+-- a table of which no row is broken, part by part
+pub record Parts (short wrongLength : Bool) (p : Park) : Type 0 where
+  pub start : short ≡ false
+  pub header : firstBroken (headerRules wrongLength (p .header)) ≡ none
+  pub sites : firstBroken (each siteRules 1 (p .sites)) ≡ none
+  pub lines : firstBroken (each (lineRules (p .header .sites)) 1 (p .lines)) ≡ none
+  pub inputs : firstBroken (each (inputRules (p .lines)) 1 (p .sites)) ≡ none
+
+pub parts : (short wrongLength : Bool) (p : Park) → firstBroken (rulesOf short wrongLength p) ≡ none → Parts short wrongLength p
+unfolding rulesOf
+parts short wrongLength p e =
+    let start = startRules short in
+    let header = headerRules wrongLength (p .header) in
     let sites = each siteRules 1 (p .sites) in
-    let lines = each (lineRules (h .sites)) 1 (p .lines) in
+    let lines = each (lineRules (p .header .sites)) 1 (p .lines) in
     let inputs = each (inputRules (p .lines)) 1 (p .sites) in
     let a = first-none (start ++ header) (sites ++ (lines ++ inputs)) e in
     let b = first-none sites (lines ++ inputs) (a .1) in
     let c = first-none lines inputs (b .1) in
-    let length-sites = length-listOf (siteOf h file) (h .sites) in
+    let d = first-none start header (a .0) in
+    record { start = whole start (d .0) .0; header = d .1; sites = b .0; lines = c .0; inputs = c .1 }
+
+-- such a park keeps every rule
+pub kept-park : {short wrongLength : Bool} (p : Park) (size : ℕ) → Parts short wrongLength p → size ≡ sizeOf (p .header) → length (p .sites) ≡ p .header .sites → length (p .lines) ≡ p .header .lines → Kept size p
+kept-park {wrongLength = wrongLength} p size is same siteCount lineCount =
+    let h = p .header in
     record {
-      header = kept-header (length file) h (first-none start header (a .0) .1);
-      siteCount = length-sites;
-      lineCount = length-listOf (lineOf h file) (h .lines);
-      sites = each-kept siteRules KeptSite kept-site 1 (p .sites) (b .0);
-      lines = each-kept (lineRules (h .sites)) (KeptLine (h .sites)) (kept-line (h .sites)) 1 (p .lines) (c .0);
-      fed = λ k h l. rw (← (add-sub-of-le h)) (fed-from (p .lines) 1 (k - 1) (p .sites) (c .1) (omega arith));
+      header = kept-fields wrongLength h (is .header) size same;
+      siteCount = siteCount;
+      lineCount = lineCount;
+      sites = each-kept siteRules KeptSite kept-site 1 (p .sites) (is .sites);
+      lines = each-kept (lineRules (h .sites)) (KeptLine (h .sites)) (kept-line (h .sites)) 1 (p .lines) (is .lines);
+      fed = λ k low high. rw (← (add-sub-of-le low)) (fed-from (p .lines) 1 (k - 1) (p .sites) (is .inputs) (omega arith));
     }
+
+-- an accepted file keeps every rule
+pub kept : Guarantee
+unfolding refusal fileRules parkOf
+kept file e =
+    let p = parkOf file in
+    let is = parts (isShort file) (hasWrongLength file) p e in
+    kept-park p (length file) is
+    (equal (length file) (sizeOf (p .header)) (right-length (hasWrongLength file) (p .header) (is .header)))
+    (length-listOf (siteOf (p .header) file) (p .header .sites)) (length-listOf (lineOf (p .header) file) (p .header .lines))
 
 -- an accepted file is long enough for its header
 pub header-fits : (file : List ℕ) → IsAccepted file → headerSize ≤ length file

@@ -11,14 +11,14 @@ use lib.Dec.{eqb}
 use lib.ListN.{length, take}
 use lib.Seq.{getD-take, length-take-le}
 use Rattle.park_format.specs.Format.{fieldsAt, headerWidths, numberAt, total}
-use Rattle.park_format.specs.Park.{headerFrom, headerOf}
-use Rattle.park_format.specs.Rules.{Row, firstBroken, headerRules, refusal, sizeOf}
+use Rattle.park_format.specs.Park.{headerFrom, headerOf, lineOf, siteOf}
+use Rattle.park_format.specs.Rules.{Row, firstBroken, hasWrongLength, headerRules, refusal, sizeOf}
 use Rattle.park_format.specs.Rules.Row.{rule}
 use Rattle.park_format.specs.Cut.{CutRefusal, longest}
 use Rattle.park_format.specs.declared.header.Header.{Header}
 use Rattle.park_format.proofs.Accepted.{kept-header}
 use Rattle.park_format.proofs.Rules.{first-append, first-stays}
-use Rattle.park_format.proofs.Verdict.{header-refused}
+use Rattle.park_format.proofs.Verdict.{file-table, header-refused}
 
 -- numbers that lie within the first bytes of a file
 number-cut : (w bytes : ℕ) (file : List ℕ) (at : ℕ) → at + w ≤ bytes → numberAt w (take bytes file) at ≡ numberAt w file at
@@ -65,7 +65,7 @@ header-long h = by (firstBroken (before-length h)) refl
 -- and that refusal is the file's
 long-refused : (file : List ℕ) (h : Header) → h ≡ headerOf file → longest < length file → refusal file ≡ some (header-long h .0)
 long-refused file h read more =
-    sym (header-refused file h read (omega arith) (header-long h .1 (length file) more ∙ ap (λ (x : Header). firstBroken (headerRules (not (eqb (length file) (sizeOf x))) h)) read))
+    sym (header-refused (hasWrongLength file) h (siteOf h file) (lineOf h file) (file-table file h read (omega arith)) (header-long h .1 (length file) more ∙ ap (λ (x : Header). firstBroken (headerRules (not (eqb (length file) (sizeOf x))) h)) read))
 
 pub cut-refusal : CutRefusal
 cut-refusal bytes more file longer =

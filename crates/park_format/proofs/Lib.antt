@@ -7,3 +7,10 @@ pub mod Entries
 pub mod Accepted
 pub mod Verdict
 pub mod Cut
+pub mod Bytes
+pub mod Stores
+pub mod Joined
+pub mod Made
+pub mod Fits
+pub mod Call
+pub mod Said

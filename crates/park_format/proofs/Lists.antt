@@ -1,15 +1,15 @@
 -- Laws of lists: of a list made of its values in order, of the values that pass a test, and of what holds of each value.
 -- Assumes nothing.
 use Prim.Native.Nat.{ℕ, zero, suc, _+_, _<_}
-use native.Mathlib.Nat.{not-suc-le-zero, le-of-suc-le-suc, eq-or-lt-of-le}
+use native.Mathlib.Nat.{add-assoc, not-suc-le-zero, le-of-suc-le-suc, eq-or-lt-of-le}
 use native.Mathlib.Numerals.{add-one}
 use native.Mathlib.Omega.{arith}
 use mathlib.Core.Logic.{⊎-elim}
 use mathlib.Core.Path.{_≡_, refl, sym, ap, subst, _∙_}
 use mathlib.Core.Bool.{Bool, true, false, _&&_, cond}
 use mathlib.Core.List.{List, [], _∷_, _++_}
-use lib.ListN.{getD, length, length-append, List·getD-append}
-use lib.Seq.{getD-at}
+use lib.ListN.{drop, getD, length, length-append, List·getD-append, take}
+use lib.Seq.{drop-drop, getD-at, take-add, take-length}
 use Rattle.park_format.specs.Park.{listOf, select}
 use Rattle.park_format.specs.Rules.{isEmpty}
 use Rattle.park_format.specs.Accepted.{Every}
@@ -51,9 +51,20 @@ module _ {ℓ} {A : Type ℓ} where
   every-append P [] ys e = (tt, e)
   every-append P (x ∷ xs) ys e = let r = every-append P xs ys (e .1) in ((e .0, r .0), r .1)
 
+  pub every-join : (P : A → Type 0) (xs ys : List A) → Every P xs → Every P ys → Every P (xs ++ ys)
+  every-join P [] ys e f = f
+  every-join P (x ∷ xs) ys e f = (e .0, every-join P xs ys (e .1) f)
+
   pub every-snoc : (P : A → Type 0) (xs : List A) (y : A) → Every P xs → P y → Every P (xs ++ (y ∷ []))
-  every-snoc P [] y e h = (h, tt)
-  every-snoc P (x ∷ xs) y e h = (e .0, every-snoc P xs y (e .1) h)
+  every-snoc P xs y e h = every-join P xs (y ∷ []) e (h, tt)
+
+  pub every-map : (P Q : A → Type 0) → ((x : A) → P x → Q x) → (xs : List A) → Every P xs → Every Q xs
+  every-map P Q gives [] e = tt
+  every-map P Q gives (x ∷ xs) e = (gives x (e .0), every-map P Q gives xs (e .1))
+
+  pub every-all : {P : A → Type 0} → ((x : A) → P x) → (xs : List A) → Every P xs
+  every-all holds [] = tt
+  every-all holds (x ∷ xs) = (holds x, every-all holds xs)
 
   -- what holds of each value of a list, and of what stands past its end, holds at every place
   pub every-getD : (P : A → Type 0) (d : A) → P d → (xs : List A) → Every P xs → (i : ℕ) → P (getD xs i d)
@@ -73,3 +84,12 @@ module _ {ℓ} {A : Type ℓ} where
   every-at P f (suc n) e i h =
       let r = every-append P (listOf f n) (f n ∷ []) e in
       ⊎-elim (λ q. subst (λ (k : ℕ). P (f k)) (sym q) (r .1 .0)) (λ l. every-at P f n (r .0) i l) (eq-or-lt-of-le (le-of-suc-le-suc h))
+
+  -- a list in three parts
+  pub three-parts : (l : List A) (i j k : ℕ) → i + j + k ≡ length l → take i l ++ (take j (drop i l) ++ take k (drop (i + j) l)) ≡ l
+  three-parts l i j k all =
+      ap (λ (part : List A). take i l ++ (take j (drop i l) ++ take k part)) (sym (drop-drop j i l))
+      ∙ ap (λ (rest : List A). take i l ++ rest) (sym (take-add j k (drop i l)))
+      ∙ sym (take-add i (j + k) l)
+      ∙ ap (λ (n : ℕ). take n l) (sym (add-assoc i j k) ∙ all)
+      ∙ take-length l

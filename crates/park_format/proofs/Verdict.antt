@@ -1,4 +1,4 @@
--- Laws of a file's refusal: what it comes to as the parts of the table are looked at one after the other.
+-- Laws of a refusal: what it comes to as the parts of the table are looked at one after the other.
 -- Assumes nothing.
 use Prim.Native.Nat.{ℕ, zero, suc, _+_, _≤_, _<_}
 use native.Mathlib.Nat.{le-of-lt, le-refl}
@@ -11,7 +11,7 @@ use mathlib.Core.Option.{Option, none, some}
 use lib.Dec.{eqb, ltb}
 use lib.ListN.{length}
 use borrow.Author.Tests.{lt-ltb, le-ltb, ltb-true, ltb-false, not-true, not-false}
-use Rattle.park_format.specs.Park.{headerOf, inputs, lineOf, listOf, parkOf, select, siteOf}
+use Rattle.park_format.specs.Park.{headerOf, inputs, lineOf, listOf, Park, parkOf, select, siteOf}
 use Rattle.park_format.specs.Rules.{Row, firstBroken, headerRules, siteRules, lineRules, inputRules, each, fileRules, hasWrongLength, rulesOf, refusal, isEmpty, sizeOf}
 use Rattle.park_format.specs.Inner.Set.{has, Lowest, IsFed}
 use Rattle.park_format.specs.Inner.Sized.{Sized}
@@ -24,59 +24,72 @@ use Rattle.park_format.proofs.Accepted.{kept-header, kept-sized}
 use Rattle.park_format.proofs.Lists.{select-append, isEmpty-append}
 use Rattle.park_format.proofs.Rules.{first-append, first-stays, upTo, upTo-zero, upTo-next, upTo-stays}
 
+-- a park whose records are read one by one, from a file or from elsewhere, and whose header is there to be read
+module _ (wrongLength : Bool) (h : Header) (site : ℕ → Site) (line : ℕ → Line) where
+  abbrev park : Park
+  park = record { header = h; sites = listOf site (h .sites); lines = listOf line (h .lines) }
+
+  -- the parts of its table
+  abbrev header-part : List Row
+  header-part = headerRules wrongLength h
+
+  abbrev sites-part : List Row
+  sites-part = each siteRules 1 (park .sites)
+
+  abbrev lines-part : List Row
+  lines-part = each (lineRules (h .sites)) 1 (park .lines)
+
+  abbrev inputs-part : List Row
+  inputs-part = each (inputRules (park .lines)) 1 (park .sites)
+
+  -- what is refused is the first broken row
+  abbrev pub Table : Option (ℕ × ℕ) → Type 0
+  Table refused = refused ≡ firstBroken (rulesOf false wrongLength park)
+
+  parts : firstBroken (rulesOf false wrongLength park) ≡ firstBroken (header-part ++ (sites-part ++ (lines-part ++ inputs-part)))
+  unfolding rulesOf firstBroken
+  parts = refl
+
+  pub header-refused : {refused : Option (ℕ × ℕ)} {r : ℕ × ℕ} → Table refused → some r ≡ firstBroken header-part → some r ≡ refused
+  header-refused table e = sym (table ∙ parts ∙ first-stays header-part _ (sym e))
+
+  -- a header that keeps its rules
+  pub record Headed (refused : Option (ℕ × ℕ)) : Type 0 where
+    pub table : Table refused
+    pub sound : none ≡ firstBroken header-part
+
+  module _ {refused : Option (ℕ × ℕ)} (head : Headed refused) where
+    after-header : refused ≡ firstBroken (sites-part ++ (lines-part ++ inputs-part))
+    after-header = head .table ∙ parts ∙ first-append header-part _ (sym (head .sound))
+
+    pub sites-refused : {r : ℕ × ℕ} → some r ≡ firstBroken sites-part → some r ≡ refused
+    sites-refused e = sym (after-header ∙ first-stays sites-part _ (sym e))
+
+    module _ (sites : none ≡ firstBroken sites-part) where
+      after-sites : refused ≡ firstBroken (lines-part ++ inputs-part)
+      after-sites = after-header ∙ first-append sites-part _ (sym sites)
+
+      pub lines-refused : {r : ℕ × ℕ} → some r ≡ firstBroken lines-part → some r ≡ refused
+      lines-refused e = sym (after-sites ∙ first-stays lines-part _ (sym e))
+
+      pub inputs-decide : none ≡ firstBroken lines-part → firstBroken inputs-part ≡ refused
+      inputs-decide lines = sym (after-sites ∙ first-append lines-part _ (sym lines))
+
+-- a file
 pub too-short : (file : List ℕ) → length file < headerSize → some (1, 0) ≡ refusal file
 unfolding refusal fileRules rulesOf firstBroken
 too-short file h = rw (lt-ltb (length file) headerSize h)
 
--- the table of a file that is long enough for a header, part by part
-module _ (file : List ℕ) (h : Header) where
-  abbrev header-part : List Row
-  header-part = headerRules (hasWrongLength file) h
+module _ (file : List ℕ) (h : Header) (read : h ≡ headerOf file) where
+  pub file-table : headerSize ≤ length file → Table (hasWrongLength file) h (siteOf h file) (lineOf h file) (refusal file)
+  unfolding refusal fileRules parkOf
+  file-table long = rw (le-ltb (length file) headerSize long, read)
 
-  abbrev sites-part : List Row
-  sites-part = each siteRules 1 (listOf (siteOf h file) (h .sites))
-
-  abbrev lines-part : List Row
-  lines-part = each (lineRules (h .sites)) 1 (listOf (lineOf h file) (h .lines))
-
-  abbrev inputs-part : List Row
-  inputs-part = each (inputRules (listOf (lineOf h file) (h .lines))) 1 (listOf (siteOf h file) (h .sites))
-
-  table : h ≡ headerOf file → headerSize ≤ length file → refusal file ≡ firstBroken (header-part ++ (sites-part ++ (lines-part ++ inputs-part)))
-  unfolding refusal fileRules rulesOf parkOf firstBroken
-  table read long = rw (le-ltb (length file) headerSize long, read)
-
-  pub header-refused : {r : ℕ × ℕ} → h ≡ headerOf file → headerSize ≤ length file → some r ≡ firstBroken header-part → some r ≡ refusal file
-  header-refused read long e = sym (table read long ∙ first-stays header-part _ (sym e))
-
-  -- a header that was read and keeps its rules
-  pub record Headed : Type 0 where
-    pub read : h ≡ headerOf file
-    pub long : headerSize ≤ length file
-    pub sound : none ≡ firstBroken header-part
-
-  module _ (head : Headed) where
-    -- the file is then as long as its header says
-    pub sized : Sized h (length file)
-    sized =
-        kept-sized
-        (kept-header (length file) h (ap (λ (x : Header). firstBroken (headerRules (not (eqb (length file) (sizeOf x))) h)) (head .read) ∙ sym (head .sound)))
-
-    after-header : refusal file ≡ firstBroken (sites-part ++ (lines-part ++ inputs-part))
-    after-header = table (head .read) (head .long) ∙ first-append header-part _ (sym (head .sound))
-
-    pub sites-refused : {r : ℕ × ℕ} → some r ≡ firstBroken sites-part → some r ≡ refusal file
-    sites-refused e = sym (after-header ∙ first-stays sites-part _ (sym e))
-
-    module _ (sites : none ≡ firstBroken sites-part) where
-      after-sites : refusal file ≡ firstBroken (lines-part ++ inputs-part)
-      after-sites = after-header ∙ first-append sites-part _ (sym sites)
-
-      pub lines-refused : {r : ℕ × ℕ} → some r ≡ firstBroken lines-part → some r ≡ refusal file
-      lines-refused e = sym (after-sites ∙ first-stays lines-part _ (sym e))
-
-      pub inputs-decide : none ≡ firstBroken lines-part → firstBroken inputs-part ≡ refusal file
-      inputs-decide lines = sym (after-sites ∙ first-append lines-part _ (sym lines))
+  -- with a header that keeps its rules it has room for what the header says
+  pub sized : none ≡ firstBroken (headerRules (hasWrongLength file) h) → Sized h (length file)
+  sized sound =
+      kept-sized
+      (kept-header (length file) h (ap (λ (x : Header). firstBroken (headerRules (not (eqb (length file) (sizeOf x))) h)) read ∙ sym sound))
 
 -- one line more, and the site that it goes to
 pub fed-more : (set more : ℕ) (l : Line) (lines : List Line) → IsFed set lines → ((j : ℕ) → has more j ≡ (has set j || eqb (l .to) (suc j))) → IsFed more (lines ++ (l ∷ []))

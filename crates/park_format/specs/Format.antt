@@ -42,7 +42,7 @@ lineStart s i = siteStart s + lineSize * i
 abbrev pub fileSize : ℕ → ℕ → ℕ
 fileSize s n = lineStart s n
 
--- the byte at a position; 0 past the end, which only a file that 1 or 9 refuses comes to
+-- the byte at a position; 0 past the end, which only a file that breaks 1 or 9 comes to
 abbrev pub byte : List ℕ → ℕ → ℕ
 byte file at = getD file at 0
 

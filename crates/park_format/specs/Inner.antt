@@ -1,3 +1,4 @@
 -- What only the contracts of inner functions and the proofs speak of. No contract of a call meant for others uses it.
 pub mod Sized
 pub mod Set
+pub mod Stored

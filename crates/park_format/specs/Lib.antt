@@ -1,8 +1,9 @@
 pub mod Limits
 pub mod Format
-pub mod Made
 pub mod Park
 pub mod Rules
+pub mod Call
 pub mod Cut
 pub mod Accepted
+pub mod Made
 pub mod Inner

@@ -18,7 +18,7 @@ use Rattle.park_format.specs.declared.rule.Verdict.{Verdict}
 use Rattle.park_format.specs.declared.rule.Verdict.the-variants.{Accepted, Refused}
 
 -- a row of the table: the rule's number, the place, and whether the rule is broken there. The place is the site or the line, counted
--- from 1, for 10 to 19, else 0. The rows 20 and 21 belong to the billing calls
+-- from 1, for 10 to 19, else 0. The rows 20 to 22 belong to the calls
 pub data Row : Type 0 where
   rule : ℕ → ℕ → Bool → Row
 

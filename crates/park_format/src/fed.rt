@@ -9,6 +9,12 @@ ghost use Rattle.park_format.specs.Inner.Set.{has, Lowest, Unfed};
 ghost use Rattle.park_format.specs.Limits.{mostSites};
 ghost use Rattle.park_format.specs.Rules.{refusalOf};
 
+// What a walk over the lines finds: a broken rule, or the sites that have an input.
+pub enum Walked {
+    Refused(Refusal),
+    Fed(u16),
+}
+
 // The set with the site that a line goes to; the network, 0, adds nothing.
 pub fn with(fed: u16, to: u32) -> u16
     requires { ⌜ to ≤ mostSites ⌝ }
@@ -25,7 +31,7 @@ fn before_missing(fed: u16) -> u32
     u16::trailing_zeros(missing)
 }
 
-// Rule 19 in a park of as many sites, by the set of those with an input line.
+// Rule 19 in a park of as many sites, at most 16, by the set of those with an input line.
 pub fn check(fed: u16, sites: u32) -> Verdict
     ensures { λ r. ⌜ Unfed fed sites (refusalOf r) ⌝ }
 {

@@ -1,43 +1,73 @@
 // A whole park file: its records by their index, and its check.
 use crate::fed;
+use crate::fed::Walked;
 use crate::header::Header;
 use crate::line::Line;
 use crate::rule::Refusal;
 use crate::rule::Verdict;
 use crate::site::Site;
 ghost use mathlib.Core.Path.{_≡_};
-ghost use Prim.Native.Nat.{_<_};
+ghost use Prim.Native.Nat.{_≤_, _<_};
 ghost use lib.ListN.{length};
+ghost use Rattle.park_format.specs.Format.{lineStart, siteStart};
 ghost use Rattle.park_format.specs.Inner.Set.{Walks};
 ghost use Rattle.park_format.specs.Inner.Sized.{Sized};
+ghost use Rattle.park_format.specs.Inner.Stored.{Stored};
+ghost use Rattle.park_format.specs.Limits.{mostLines, mostSites};
+ghost use Rattle.park_format.specs.Made.{lineBytes, siteBytes};
 ghost use Rattle.park_format.specs.Park.{lineOf, listOf, siteOf};
 ghost use Rattle.park_format.specs.Rules.{refusalOf, refusal, firstBroken, each, siteRules, lineRules};
 
-// What the walk over the lines finds: a broken rule, or the sites that have an input.
-enum Walked {
-    Refused(Refusal),
-    Fed(u16),
+// Where site i begins, counted from 0.
+fn site_start(i: usize) -> usize
+    requires { ⌜ i ≤ mostSites ⌝ }
+    ensures { λ r. ⌜ r ≡ siteStart i ⌝ }
+{
+    Header::LEN + Site::LEN * i
 }
 
-// Site i of a file that is as long as its header says, counted from 0.
+// Where line i begins, counted from 0.
+fn line_start(header: Header, i: usize) -> usize
+    requires { ⌜ (header .sites ≤ mostSites) × (i ≤ mostLines) ⌝ }
+    ensures { λ r. ⌜ r ≡ lineStart (header .sites) i ⌝ }
+{
+    site_start(header.sites as usize) + Line::LEN * i
+}
+
+// Site i of a file that has room for what its header says, counted from 0.
 pub fn site_of(file: &[u8], header: Header, i: usize) -> Site
     requires sized { ⌜ Sized header (length (now file)) ⌝ }
     requires there { ⌜ i < header .sites ⌝ }
     ensures { λ r. ⌜ r ≡ siteOf header (now (file .entry)) i ⌝ }
 {
-    Site::read(file, Header::LEN + Site::LEN * i)
+    Site::read(file, site_start(i))
 }
 
-// Line i of a file that is as long as its header says, counted from 0.
+// Line i of such a file, counted from 0.
 pub fn line_of(file: &[u8], header: Header, i: usize) -> Line
     requires sized { ⌜ Sized header (length (now file)) ⌝ }
     requires there { ⌜ i < header .lines ⌝ }
     ensures { λ r. ⌜ r ≡ lineOf header (now (file .entry)) i ⌝ }
 {
-    Line::read(
-        file,
-        Header::LEN + Site::LEN * (header.sites as usize) + Line::LEN * i,
-    )
+    Line::read(file, line_start(header, i))
+}
+
+// Writes site i of such a file, counted from 0.
+pub fn write_site(file: &mut [u8], header: Header, i: usize, site: Site)
+    requires sized { ⌜ Sized header (length (now file)) ⌝ }
+    requires there { ⌜ i < header .sites ⌝ }
+    ensures { λ _. ⌜ Stored (siteBytes site) (siteStart i) (now (file .entry)) (now (file .exit)) ⌝ }
+{
+    site.write(file, site_start(i));
+}
+
+// Writes line i of such a file, counted from 0.
+pub fn write_line(file: &mut [u8], header: Header, i: usize, line: Line)
+    requires sized { ⌜ Sized header (length (now file)) ⌝ }
+    requires there { ⌜ i < header .lines ⌝ }
+    ensures { λ _. ⌜ Stored (lineBytes line) (lineStart (header .sites) i) (now (file .entry)) (now (file .exit)) ⌝ }
+{
+    line.write(file, line_start(header, i));
 }
 
 // The first broken rule of the sites, in their order; accepted if none is broken.

@@ -7,7 +7,9 @@ ghost use mathlib.Core.Path.{_≡_};
 ghost use Prim.Native.Nat.{_≤_};
 ghost use lib.ListN.{length};
 ghost use Rattle.park_format.specs.Format.{headerSize};
+ghost use Rattle.park_format.specs.Inner.Stored.{Stored};
 ghost use Rattle.park_format.specs.Limits.{months};
+ghost use Rattle.park_format.specs.Made.{headerBytes};
 ghost use Rattle.park_format.specs.Park.{headerOf};
 ghost use Rattle.park_format.specs.Rules.{refusalAt, firstBroken, headerRules, mostHours, sizeOf};
 
@@ -40,6 +42,19 @@ impl Header {
     // Bytes.
     pub const LEN: usize = 14;
 
+    // Where the fields after the first begin.
+    const AT_VERSION: usize = 3;
+
+    const AT_MONTH: usize = 5;
+
+    const AT_SITES: usize = 6;
+
+    const AT_LINES: usize = 7;
+
+    const AT_PRICE: usize = 8;
+
+    const AT_HOURS: usize = 12;
+
     // The letters PRK.
     pub const MARK: u32 = 0x4b5250;
 
@@ -61,13 +76,27 @@ impl Header {
     {
         Header {
             mark: number::three(file, 0),
-            version: number::two(file, 3),
-            month: number::one(file, 5),
-            sites: number::one(file, 6),
-            lines: number::one(file, 7),
-            price: number::four(file, 8),
-            hours: number::two(file, 12),
+            version: number::two(file, Header::AT_VERSION),
+            month: number::one(file, Header::AT_MONTH),
+            sites: number::one(file, Header::AT_SITES),
+            lines: number::one(file, Header::AT_LINES),
+            price: number::four(file, Header::AT_PRICE),
+            hours: number::two(file, Header::AT_HOURS),
         }
+    }
+
+    // Writes the header at the start of a file that has room for one: of a number that is too large for its field, the lowest bytes.
+    pub fn write(self, file: &mut [u8])
+        requires { ⌜ headerSize ≤ length (now file) ⌝ }
+        ensures { λ _. ⌜ Stored (headerBytes self) 0 (now (file .entry)) (now (file .exit)) ⌝ }
+    {
+        number::write_three(file, 0, self.mark);
+        number::write_two(file, Header::AT_VERSION, self.version);
+        number::write_one(file, Header::AT_MONTH, self.month);
+        number::write_one(file, Header::AT_SITES, self.sites);
+        number::write_one(file, Header::AT_LINES, self.lines);
+        number::write_four(file, Header::AT_PRICE, self.price);
+        number::write_two(file, Header::AT_HOURS, self.hours);
     }
 
     // The length of a file with as many sites and lines.

@@ -1,5 +1,5 @@
 // The park file: its records, its rules, and the check of a whole file.
-mod fed;
+pub mod fed;
 pub mod file;
 pub mod header;
 pub mod line;

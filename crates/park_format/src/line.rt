@@ -7,6 +7,8 @@ ghost use mathlib.Core.Bool.{cond};
 ghost use Prim.Native.Nat.{ℕ, _+_, _^_, _≤_, _<_};
 ghost use lib.ListN.{length};
 ghost use Rattle.park_format.specs.Format.{lineSize};
+ghost use Rattle.park_format.specs.Inner.Stored.{Stored};
+ghost use Rattle.park_format.specs.Made.{lineBytes};
 ghost use Rattle.park_format.specs.Park.{lineAt};
 ghost use Rattle.park_format.specs.Rules.{refusalAt, firstBroken, lineRules, measuresReactive, measuresGenerated, measuresNight, backwards, bothNetwork, endAbove, wrongEnds, wrongMeters, readingAbove, wrongReadings};
 
@@ -29,6 +31,21 @@ impl Line {
     // Bytes.
     pub const LEN: usize = 21;
 
+    // Where the fields after the first begin.
+    const AT_TO: usize = 1;
+
+    const AT_METERS: usize = 2;
+
+    const AT_EERP: usize = 3;
+
+    const AT_ACTIVE: usize = 5;
+
+    const AT_REACTIVE: usize = 9;
+
+    const AT_GENERATED: usize = 13;
+
+    const AT_NIGHT: usize = 17;
+
     // Limits of rules 15 to 17.
     pub const MOST_MARK: u32 = meter::ALL;
 
@@ -43,14 +60,29 @@ impl Line {
     {
         Line {
             from: number::one(file, at),
-            to: number::one(file, at + 1),
-            meters: number::one(file, at + 2),
-            eerp: number::two(file, at + 3),
-            active: number::four(file, at + 5),
-            reactive: number::four(file, at + 9),
-            generated: number::four(file, at + 13),
-            night: number::four(file, at + 17),
+            to: number::one(file, at + Line::AT_TO),
+            meters: number::one(file, at + Line::AT_METERS),
+            eerp: number::two(file, at + Line::AT_EERP),
+            active: number::four(file, at + Line::AT_ACTIVE),
+            reactive: number::four(file, at + Line::AT_REACTIVE),
+            generated: number::four(file, at + Line::AT_GENERATED),
+            night: number::four(file, at + Line::AT_NIGHT),
         }
+    }
+
+    // Writes the record from a position on, all of it within the file: of a number that is too large for its field, the lowest bytes.
+    pub fn write(self, file: &mut [u8], at: usize)
+        requires { ⌜ at + lineSize ≤ length (now file) ⌝ }
+        ensures { λ _. ⌜ Stored (lineBytes self) at (now (file .entry)) (now (file .exit)) ⌝ }
+    {
+        number::write_one(file, at, self.from);
+        number::write_one(file, at + Line::AT_TO, self.to);
+        number::write_one(file, at + Line::AT_METERS, self.meters);
+        number::write_two(file, at + Line::AT_EERP, self.eerp);
+        number::write_four(file, at + Line::AT_ACTIVE, self.active);
+        number::write_four(file, at + Line::AT_REACTIVE, self.reactive);
+        number::write_four(file, at + Line::AT_GENERATED, self.generated);
+        number::write_four(file, at + Line::AT_NIGHT, self.night);
     }
 
     // Whether the line has the meter of reactive consumption.

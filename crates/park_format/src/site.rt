@@ -6,7 +6,9 @@ ghost use mathlib.Core.Bool.{cond};
 ghost use Prim.Native.Nat.{ℕ, _+_, _≤_};
 ghost use lib.ListN.{length};
 ghost use Rattle.park_format.specs.Format.{siteSize};
+ghost use Rattle.park_format.specs.Inner.Stored.{Stored};
 ghost use Rattle.park_format.specs.Limits.{mostInstalled};
+ghost use Rattle.park_format.specs.Made.{siteBytes};
 ghost use Rattle.park_format.specs.Park.{siteAt};
 ghost use Rattle.park_format.specs.Rules.{refusalAt, firstBroken, hasDevices, siteRules, wrongDevices};
 
@@ -27,6 +29,15 @@ impl Site {
     // Bytes.
     pub const LEN: usize = 11;
 
+    // Where the fields after the first begin.
+    const AT_DEVICES: usize = 4;
+
+    const AT_COMPENSATION: usize = 5;
+
+    const AT_MOTORS: usize = 7;
+
+    const AT_DISCOUNT: usize = 9;
+
     // Limits of rules 10 to 13.
     pub const MOST_POWER: u32 = 1_000_000;
 
@@ -43,11 +54,23 @@ impl Site {
     {
         Site {
             power: number::four(file, at),
-            devices: number::one(file, at + 4),
-            compensation: number::two(file, at + 5),
-            motors: number::two(file, at + 7),
-            discount: number::two(file, at + 9),
+            devices: number::one(file, at + Site::AT_DEVICES),
+            compensation: number::two(file, at + Site::AT_COMPENSATION),
+            motors: number::two(file, at + Site::AT_MOTORS),
+            discount: number::two(file, at + Site::AT_DISCOUNT),
         }
+    }
+
+    // Writes the record from a position on, all of it within the file: of a number that is too large for its field, the lowest bytes.
+    pub fn write(self, file: &mut [u8], at: usize)
+        requires { ⌜ at + siteSize ≤ length (now file) ⌝ }
+        ensures { λ _. ⌜ Stored (siteBytes self) at (now (file .entry)) (now (file .exit)) ⌝ }
+    {
+        number::write_four(file, at, self.power);
+        number::write_one(file, at + Site::AT_DEVICES, self.devices);
+        number::write_two(file, at + Site::AT_COMPENSATION, self.compensation);
+        number::write_two(file, at + Site::AT_MOTORS, self.motors);
+        number::write_two(file, at + Site::AT_DISCOUNT, self.discount);
     }
 
     // Whether compensation or generating devices exist.

@@ -7,6 +7,7 @@ use mathlib.Core.Path.{_≡_, refl, ap, ap₂, _∙_}
 use mathlib.Core.Bool.{Bool, true, false, cond, _&&_}
 use mathlib.Core.List.{List, [], _∷_, _++_}
 use lib.ListN.{length}
+use Rattle.park_format.proofs.Lists.{every-map}
 use Rattle.park_sums.specs.Sums.{sumBy, allOf}
 use Rattle.park_sums.specs.Inner.Rows.{when}
 use Rattle.park_format.specs.Limits.{mostLines}
@@ -58,10 +59,6 @@ module _ {ℓ} {A : Type ℓ} where
   unfolding sumBy
   sumBy-le f most [] e = zero-le
   sumBy-le f most (x ∷ xs) e = rw (mul-suc, add-comm (most * length xs) most) (add-le-add (e .0) (sumBy-le f most xs (e .1)))
-
-  pub every-map : (P Q : A → Type 0) → ((x : A) → P x → Q x) → (xs : List A) → Every P xs → Every Q xs
-  every-map P Q f [] e = tt
-  every-map P Q f (x ∷ xs) e = (f x (e .0), every-map P Q f xs (e .1))
 
   pub every-select : (P : A → Type 0) (test : A → Bool) (xs : List A) → Every P xs → Every P (select test xs)
   unfolding select

@@ -15,7 +15,8 @@ use Rattle.park_format.specs.Rules.Row.{rule}
 use Rattle.park_format.proofs.Accepted.{kept}
 use Rattle.park_format.proofs.Cut.{cut-refusal}
 use Rattle.park_bill.specs.Bill.{billNumbers}
-use Rattle.park_bill.specs.Reply.{answer, billsOf, unlessRefused}
+use Rattle.park_format.specs.Call.{answer, unlessRefused}
+use Rattle.park_bill.specs.Reply.{billsOf}
 use Rattle.park_bill.proofs.Refusals.{call-allows, file-first}
 use Rattle.park_bill.proofs.Slices.{length-bills}
 use Rattle.park_text.specs.Answer.{AcceptedAnswer, answerText, answerTo, CutAnswer, RefusedAnswer, unwritten}

@@ -11,6 +11,7 @@ use borrow.Author.Tests.{eqb-true, eq-eqb, ne-eqb}
 use Rattle.park_format.proofs.Tests.{and-both}
 use Rattle.park_format.specs.Park.{headerOf, lineAt, lineOf, listOf, parkOf, select, siteAt, siteOf}
 use Rattle.park_format.specs.Format.{fieldsAt, numberAt}
+use Rattle.park_format.specs.Made.{bytesFor, bytesOf, fileOf, joined}
 use Rattle.park_format.specs.Rules.{each, fileRules, firstBroken, headerRules, inputRules, lineRules, measuresReactive, mostHours, refusal, rulesOf, siteRules}
 use Rattle.park_format.specs.Accepted.{Every}
 use Rattle.park_format.specs.declared.line.Line.{Line}
@@ -22,7 +23,8 @@ use Rattle.park_charge.specs.Charge.{computedCharge, discount, lossCharge, reas
 use Rattle.park_sums.specs.Sums.{allOf, overSites, sumBy, EachSite}
 use Rattle.park_bill.specs.Balance.{MeasuredBetween}
 use Rattle.park_bill.specs.Bill.{consumptionOf, generationCharge, generationOf, tangentOf, weightedSum}
-use Rattle.park_bill.specs.Reply.{billsOf, refusalWith}
+use Rattle.park_format.specs.Call.{refusalWith}
+use Rattle.park_bill.specs.Reply.{billsOf, callRefusal}
 use Rattle.park_text.specs.Answer.{answerTo}
 use Rattle.park_text.specs.Ascii.{ascii}
 use Rattle.park_text.specs.Text.{billText, decimal, digitsWithin, fieldsText, namesText, refusalText, siteText, sitesText}
@@ -32,7 +34,7 @@ use Rattle.park_bill.proofs.Balances.{over-cong, over-none, over-zero}
 
 -- the test
 all-hold : allOf holds cases ≡ true
-unfolding holds fieldsAt numberAt headerOf lineAt lineOf listOf parkOf select siteAt siteOf each fileRules firstBroken headerRules inputRules lineRules mostHours refusal rulesOf siteRules rounded inflow estimatedOut outflow tangent aboveZero cut computedGeneration computedCharge discount lossCharge reason surcharge surchargeFactor allOf sumBy consumptionOf generationCharge generationOf tangentOf weightedSum billsOf refusalWith overSites answerTo decimal digitsWithin billText namesText sitesText siteText fieldsText refusalText
+unfolding holds bytesFor bytesOf fileOf joined fieldsAt numberAt headerOf lineAt lineOf listOf parkOf select siteAt siteOf each fileRules firstBroken headerRules inputRules lineRules mostHours refusal rulesOf siteRules rounded inflow estimatedOut outflow tangent aboveZero cut computedGeneration computedCharge discount lossCharge reason surcharge surchargeFactor allOf sumBy consumptionOf generationCharge generationOf tangentOf weightedSum billsOf callRefusal refusalWith overSites answerTo decimal digitsWithin billText namesText sitesText siteText fieldsText refusalText
 all-hold = refl
 
 -- what each part of the test means

@@ -1,5 +1,5 @@
-//! The branches of 01's steps, of its demand 3, of a park's shape and of its limits that a run must
-//! reach, each with its name in the coverage.
+//! The branches of 01's steps, of its demand 3, of a park's shape, of its limits and of making a
+//! file (02, R-1) that a run must reach, each with its name in the coverage.
 
 macro_rules! branches {
     ($($branch:ident $name:literal,)*) => {
@@ -90,4 +90,23 @@ branches! {
     LimitCompensation "limit: Q 20,000",
     LimitMotors "limit: P 20,000",
     LimitDiscount "limit: h 1,000",
+    FileRemade "list: accepted file made again from its numbers",
+    FileRefusedAsList "list: refused file, its numbers refused alike",
+    ListRefusedAsFile "list: refused, the file so written refused alike",
+    SmallestMade "list: accepted, the smallest",
+    LargestMade "list: accepted, the largest",
+    MadePrinted "list: accepted, the file made printed",
+    ListTooShort "list: refusal 9, too short",
+    ListTooLong "list: refusal 9, too long",
+    HeaderAlone "list: refusal 9, only five numbers",
+    BufferEmpty "list: refusal 22, buffer empty",
+    BufferOneShort "list: refusal 22, buffer one byte too short",
+    BufferExact "list: accepted, buffer just long enough",
+    BufferOneMore "list: accepted, buffer one byte longer",
+    BufferMuchMore "list: accepted, buffer much longer",
+    RefusedBufferEmpty "list: refused otherwise, buffer empty",
+    RefusedBufferOneShort "list: refused otherwise, buffer one byte too short",
+    RefusedBufferExact "list: refused otherwise, buffer just long enough",
+    RefusedBufferOneMore "list: refused otherwise, buffer one byte longer",
+    RefusedBufferMuchMore "list: refused otherwise, buffer much longer",
 }

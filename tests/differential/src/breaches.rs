@@ -31,15 +31,9 @@ impl Breach {
         }
     }
 
-    /// Where it stands in the order of checking: header and length, sites, lines, park.
+    /// Where it stands in the order of checking.
     pub fn order(&self) -> (u64, u64, u64) {
-        let stage = match self.number {
-            1..=9 => 1,
-            10..=13 => 2,
-            14..=18 => 3,
-            _ => 4,
-        };
-        (stage, self.place, self.number)
+        order(self.number, self.place)
     }
 
     /// Whether both set some byte, or both change the length.
@@ -50,6 +44,17 @@ impl Breach {
         self.length.is_some() && other.length.is_some()
             || self.patches.iter().any(|one| other.patches.iter().any(|two| overlaps(one, two)))
     }
+}
+
+/// Where a refusal stands in the order of checking: header and length, sites, lines, park.
+pub fn order(number: u64, place: u64) -> (u64, u64, u64) {
+    let stage = match number {
+        1..=9 => 1,
+        10..=13 => 2,
+        14..=18 => 3,
+        _ => 4,
+    };
+    (stage, place, number)
 }
 
 /// Rules 1 to 9.

@@ -1,7 +1,9 @@
 //! The independent calculator: the three calls (01, "Where each thing is checked", with rules 20
-//! and 21) and what the program parkbill prints (01, "Park Alder, and its neighbours").
+//! and 21), what the program parkbill prints (01, "Park Alder, and its neighbours"), and making a
+//! file from a list of its numbers (02, R-1, with rule 22).
 
-use crate::rules::{accepted_park, refuse_if};
+use crate::park::Park;
+use crate::rules::{accepted_park, listed_park, refuse_if};
 use crate::steps::work_out;
 
 pub use crate::rules::Refusal;
@@ -27,7 +29,24 @@ pub fn bill_site(file: &[u8], site: u64) -> Result<Bill, Refusal> {
 pub fn bill_park(file: &[u8], list_len: usize) -> Result<Vec<Bill>, Refusal> {
     let park = accepted_park(file)?;
     refuse_if(list_len < 11 * park.sites.len(), 21, 0)?;
-    Ok((1..=park.sites.len()).map(|site| work_out(&park, site).bill()).collect())
+    Ok(bills(&park))
+}
+
+/// The bills of all sites of an accepted park.
+pub fn bills(park: &Park) -> Vec<Bill> {
+    (1..=park.sites.len()).map(|site| work_out(park, site).bill()).collect()
+}
+
+/// Makes the file of a list of numbers in a buffer of this length; rule 22 comes last.
+pub fn encode(numbers: &[u32], buffer_len: usize) -> Result<Vec<u8>, Refusal> {
+    let file = listed_park(numbers)?.to_file();
+    refuse_if(buffer_len < file.len(), 22, 0)?;
+    Ok(file)
+}
+
+/// The one list that an accepted file is made from.
+pub fn decode(file: &[u8]) -> Result<Vec<u32>, Refusal> {
+    accepted_park(file).map(|park| park.to_list())
 }
 
 /// The exact bytes that parkbill prints for a file.

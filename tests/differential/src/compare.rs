@@ -1,14 +1,13 @@
 //! One file, asked of the calculator and of the product: the three calls of 01 with sites and
-//! list lengths on both sides of what is right, the loss balance, and what the program prints.
+//! list lengths on both sides of what is right, the loss balance, what the program prints, and the
+//! file made anew from its numbers. Lists of numbers are compared in list_compare.rs.
 
 use std::fmt::{Arguments, Debug};
-use std::fs;
-use std::io;
-use std::path::{Path, PathBuf};
 
 use crate::balance::balance;
 use crate::calculator::{self, Bill, Refusal};
 use crate::coverage::Coverage;
+use crate::failures::{Case, Failures};
 use crate::park::Park;
 use crate::product::{Product, Reply};
 use crate::rules::accepted_park;
@@ -16,31 +15,25 @@ use crate::steps::work_out;
 
 /// Numbers kept free on both sides of a list, which no call may touch.
 const GUARD: usize = 16;
-/// At most so many failing files are saved.
-const MOST_SAVED: u64 = 100;
 
 const NO_SUCH_SITE: Refusal = Refusal { number: 20, place: 0 };
 const LIST_TOO_SHORT: Refusal = Refusal { number: 21, place: 0 };
-
-/// What is done about a file with differences.
-pub enum Failures {
-    Counted,
-    Printed,
-    /// Saved in this folder, with both answers beside it.
-    Saved(PathBuf),
-}
 
 pub struct Tester<'p> {
     pub product: &'p dyn Product,
     failures: Failures,
     /// Holds each file in turn; behind a file stands what a longer one before it left.
     memory: Vec<u8>,
+    /// The same for lists of a park's numbers.
+    pub number_memory: Vec<u32>,
     pub coverage: Coverage,
     pub checks: u64,
     pub files: u64,
-    /// Files with a difference.
+    /// Lists of a park's numbers.
+    pub lists: u64,
+    /// Files and lists with a difference.
     pub failed: u64,
-    /// Differences in the file at hand.
+    /// Differences in the file or list at hand.
     notes: Vec<String>,
 }
 
@@ -50,7 +43,7 @@ struct Accepted {
     bills: Vec<Bill>,
 }
 
-fn reply_to<T>(answer: &Result<T, Refusal>) -> Reply {
+pub fn reply_to<T>(answer: &Result<T, Refusal>) -> Reply {
     match answer {
         Ok(_) => Reply { number: 0, place: 0 },
         Err(refusal) => Reply { number: refusal.number, place: refusal.place },
@@ -69,10 +62,18 @@ fn filled(salt: usize, length: usize) -> Vec<u64> {
 
 impl<'p> Tester<'p> {
     pub fn new(product: &'p dyn Product, failures: Failures) -> Tester<'p> {
-        let memory = Vec::new();
-        let coverage = Coverage::new();
-        let notes = Vec::new();
-        Tester { product, failures, memory, coverage, checks: 0, files: 0, failed: 0, notes }
+        Tester {
+            product,
+            failures,
+            memory: Vec::new(),
+            number_memory: Vec::new(),
+            coverage: Coverage::new(),
+            checks: 0,
+            files: 0,
+            lists: 0,
+            failed: 0,
+            notes: Vec::new(),
+        }
     }
 
     /// Compares everything about a file but what is printed.
@@ -91,14 +92,19 @@ impl<'p> Tester<'p> {
             self.compare_balance(accepted, &at_once);
             self.coverage.balance(balance(&accepted.park, &at_once));
         }
+        self.compare_remade(lent, expected.err());
         self.same(format_args!("the file is left as it was"), true, lent == file);
         self.memory = memory;
-        self.finish(name, file);
+        self.finish(name, Case::File(file));
     }
 
     /// Compares what the program prints for a file.
     pub fn print(&mut self, name: &str, file: &[u8]) {
-        let expected = calculator::printed(file);
+        self.print_as(name, file, calculator::printed(file));
+    }
+
+    /// Compares what the program prints for a file with what is expected.
+    pub fn print_as(&mut self, name: &str, file: &[u8], expected: String) {
         match self.product.printed(file) {
             Ok(bytes) => {
                 let got = String::from_utf8_lossy(&bytes).into_owned();
@@ -106,7 +112,7 @@ impl<'p> Tester<'p> {
             }
             Err(error) => self.notes.push(format!("the program did not run: {error}")),
         }
-        self.finish(name, file);
+        self.finish(name, Case::File(file));
     }
 
     /// Compares two answers; `what` names them.
@@ -228,33 +234,11 @@ impl<'p> Tester<'p> {
         }
     }
 
-    /// Ends the work on a file: one with differences is counted, printed or saved.
-    fn finish(&mut self, name: &str, file: &[u8]) {
-        if self.notes.is_empty() {
-            return;
-        }
-        self.failed += 1;
-        let notes = std::mem::take(&mut self.notes);
-        match &self.failures {
-            Failures::Printed => println!("{}", notes.join("\n")),
-            Failures::Saved(folder) if self.failed <= MOST_SAVED => {
-                println!("difference: {name}: {}", notes[0]);
-                match save(folder, file, &format!("{name}\n{}\n", notes.join("\n"))) {
-                    Ok(path) => println!("saved as {}", path.display()),
-                    Err(error) => println!("not saved: {error}"),
-                }
-            }
-            _ => {}
+    /// Ends the work on a file or list: one with differences is counted, and told of.
+    pub fn finish(&mut self, name: &str, case: Case) {
+        if !self.notes.is_empty() {
+            self.failed += 1;
+            self.failures.tell(name, case, &std::mem::take(&mut self.notes), self.failed);
         }
     }
-}
-
-/// Saves a file as NNN.prk and a text as NNN.txt, under the first number that is free.
-fn save(folder: &Path, file: &[u8], text: &str) -> io::Result<PathBuf> {
-    fs::create_dir_all(folder)?;
-    let mut paths = (1..).map(|number| folder.join(format!("{number:03}.prk")));
-    let path = paths.find(|path| !path.exists()).expect("some number is free");
-    fs::write(&path, file)?;
-    fs::write(path.with_extension("txt"), text)?;
-    Ok(path)
 }

@@ -1,8 +1,9 @@
-//! How often each refusal of 01 and each branch of its steps was reached. A run in which one was
-//! never reached has shown too little, and fails.
+//! How often each refusal of 01 and each branch of its steps was reached; list_coverage.rs counts
+//! for the lists of 02. A run in which one was never reached has shown too little, and fails.
 
 use crate::balance::Balance;
 use crate::branches::{Branch, NAMES};
+use crate::list_coverage::ListCoverage;
 use crate::park::{Line, Park, MONTH_HOURS};
 use crate::steps::{Consumption, Generation, Lines, Source, Working};
 
@@ -10,6 +11,7 @@ pub struct Coverage {
     /// By refusal number; place 0 counts the accepted files.
     refusals: [u64; 22],
     branches: Vec<u64>,
+    pub lists: ListCoverage,
 }
 
 /// Whether rounding meets a half.
@@ -19,7 +21,8 @@ fn half(numerator: i128, denominator: i128) -> bool {
 
 impl Coverage {
     pub fn new() -> Coverage {
-        Coverage { refusals: [0; 22], branches: vec![0; NAMES.len()] }
+        let lists = ListCoverage::default();
+        Coverage { refusals: [0; 22], branches: vec![0; NAMES.len()], lists }
     }
 
     /// Counts a reply: 0 for an accepted file.
@@ -27,7 +30,7 @@ impl Coverage {
         self.refusals[number as usize] += 1;
     }
 
-    fn count(&mut self, branch: Branch, reached: bool) {
+    pub fn count(&mut self, branch: Branch, reached: bool) {
         self.branches[branch as usize] += reached as u64;
     }
 
@@ -210,7 +213,7 @@ impl Coverage {
         });
         let branches = NAMES.iter().map(|name| name.to_string()).zip(self.branches.iter().copied());
         let mut missing = Vec::new();
-        for (name, count) in refusals.chain(branches) {
+        for (name, count) in refusals.chain(branches).chain(self.lists.counts()) {
             println!("{count:>10}  {name}");
             if count == 0 {
                 missing.push(name);

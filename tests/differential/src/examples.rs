@@ -6,8 +6,10 @@ use std::path::Path;
 
 use crate::calculator::printed;
 use crate::compare::Tester;
+use crate::named_lists::{expect_file, ALDER_LIST};
 
-/// Compares every example of a folder, and its NAME.out with what the calculator would print.
+/// Compares every example of a folder, and its NAME.out with what the calculator would print; then
+/// makes Alder's file from its list.
 pub fn run(tester: &mut Tester, folder: &Path) -> io::Result<()> {
     for entry in fs::read_dir(folder)? {
         let path = entry?.path();
@@ -20,5 +22,7 @@ pub fn run(tester: &mut Tester, folder: &Path) -> io::Result<()> {
             tester.print(&name, &file);
         }
     }
+    let alder = fs::read(folder.join("alder.prk"))?;
+    expect_file(tester, "alder.prk, from Alder's list", &ALDER_LIST, &alder);
     Ok(())
 }

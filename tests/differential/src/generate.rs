@@ -43,14 +43,14 @@ const METERINGS: [Metering; 7] = [
 
 pub fn random_park(random: &mut Random) -> Park {
     let shape = random_shape(random);
-    let month = random.between(1, 12) as u8;
+    let month = random.between(1, 12) as u32;
     let most_hours = MONTH_HOURS[month as usize - 1] as u64;
     let middle_hours = random.between(1, most_hours);
     let mut park = Park {
         month,
         price: random_price(random) as u32,
         hours: random.pick(&[0, 1, 3, most_hours - 1, most_hours, middle_hours, middle_hours])
-            as u16,
+            as u32,
         sites: (0..shape.sites).map(|_| random_site(random)).collect(),
         lines: random_lines(random, &shape.ends),
     };
@@ -81,22 +81,22 @@ fn random_site(random: &mut Random) -> Site {
     };
     Site {
         power: power as u32,
-        flag: flag as u8,
+        flag: flag as u32,
         compensation: if flag { random_device(random) } else { 0 },
         motors: if flag { random_device(random) } else { 0 },
-        discount: discount as u16,
+        discount: discount as u32,
     }
 }
 
 /// Q or P.
-fn random_device(random: &mut Random) -> u16 {
+fn random_device(random: &mut Random) -> u32 {
     let value = match random.index(5) {
         0 => 0,
         1 => random.between(0, 5),
         2 => random.pick(&[19_999, 20_000]),
         _ => random.between(0, 20_000),
     };
-    value as u16
+    value as u32
 }
 
 fn random_lines(random: &mut Random, ends: &[(u64, u64)]) -> Vec<Line> {
@@ -108,8 +108,8 @@ fn random_lines(random: &mut Random, ends: &[(u64, u64)]) -> Vec<Line> {
         let generated = random_reading(random, scale);
         let night = if random.chance(20) { generated } else { random.between(0, generated) };
         lines.push(Line {
-            from: *from as u8,
-            to: *to as u8,
+            from: *from as u32,
+            to: *to as u32,
             meters: 0,
             eerp: random_eerp(random, eerp_style),
             active: active as u32,
@@ -148,7 +148,7 @@ fn random_reactive(random: &mut Random, scale: Scale, active: u64) -> u64 {
 }
 
 /// D.
-fn random_eerp(random: &mut Random, style: usize) -> u16 {
+fn random_eerp(random: &mut Random, style: usize) -> u32 {
     let value = match style {
         0 => random.between(1, 5),
         1 => random.pick(&[1, 5_000]),
@@ -156,7 +156,7 @@ fn random_eerp(random: &mut Random, style: usize) -> u16 {
         3 => random.between(600, 800),
         _ => random.between(1, 5_000),
     };
-    value as u16
+    value as u32
 }
 
 /// Sets the meter marks: only 0, 1, 2, 3, 6 and 7 may be.

@@ -1,14 +1,16 @@
-//! The differential test program of the park bill: a calculator written from paper 01 alone, held
-//! against the product's three calls and its program parkbill.
+//! The differential test program of the park bill: a calculator written from papers 01 and 02
+//! alone, held against the product's four calls and its program parkbill.
 //!
 //! - `park_tests` runs the named cases, the example files, the refusals, the sweeps and the generated
-//!   files;
+//!   files, and for lists of a park's numbers the named ones, refusals, limits and generated ones;
 //! - `park_tests self-test` holds this program to finding injected mistakes;
-//! - `park_tests file PATH ...` compares given files, such as those of ./failures.
+//! - `park_tests file PATH ...` compares given files, such as those of ./failures;
+//! - `park_tests list PATH ...` compares given lists, such as those of ./failures.
 //!
-//! Settings from the environment: PARK_SEED and PARK_FILES (the generated files), PARK_SAMPLE (how
-//! many of them are printed too), PARKBILL (the program, by default ../../target/bin/parkbill seen
-//! from this package). Exit code: 0 if all agree and every branch was reached, else 1.
+//! Settings from the environment: PARK_SEED, PARK_FILES and PARK_LISTS (the generated files and
+//! lists), PARK_SAMPLE (how many of the files are printed too, and a tenth as many of those made
+//! from lists), PARKBILL (the program, by default ../../target/bin/parkbill seen from this
+//! package). Exit code: 0 if all agree and every branch was reached, else 1.
 
 mod balance;
 mod branches;
@@ -18,12 +20,24 @@ mod compare;
 mod coverage;
 mod damage;
 mod examples;
+mod failures;
+mod fields;
 mod generate;
 mod generated_run;
+mod list;
+mod list_breaches;
+mod list_compare;
+mod list_coverage;
+mod list_damage;
+mod list_limits;
+mod list_refusals;
+mod list_run;
 mod mistakes;
 mod mock;
+mod mock_encode;
 mod mock_steps;
 mod named;
+mod named_lists;
 mod park;
 mod parks;
 mod product;
@@ -41,11 +55,13 @@ use std::path::{Path, PathBuf};
 use std::process::ExitCode;
 use std::time::Instant;
 
-use crate::compare::{Failures, Tester};
+use crate::compare::Tester;
+use crate::failures::Failures;
 use crate::product::Product;
 
 const DEFAULT_SEED: u64 = 87;
 const DEFAULT_FILES: u64 = 200_000;
+const DEFAULT_LISTS: u64 = 60_000;
 const DEFAULT_SAMPLE: u64 = 300;
 
 fn main() -> ExitCode {
@@ -55,8 +71,9 @@ fn main() -> ExitCode {
         [] => run_tests(),
         ["self-test"] => self_test::run(setting("PARK_SEED", DEFAULT_SEED)),
         ["file", _, ..] => compare_files(&words[1..]),
+        ["list", _, ..] => compare_lists(&words[1..]),
         _ => {
-            println!("usage: park_tests [self-test | file PATH ...]");
+            println!("usage: park_tests [self-test | file PATH ... | list PATH ...]");
             false
         }
     };
@@ -92,30 +109,40 @@ fn product() -> impl Product {
 fn run_tests() -> bool {
     let seed = setting("PARK_SEED", DEFAULT_SEED);
     let files = setting("PARK_FILES", DEFAULT_FILES);
+    let lists = setting("PARK_LISTS", DEFAULT_LISTS);
     let sample = setting("PARK_SAMPLE", DEFAULT_SAMPLE);
     println!("seed {seed}, {files} generated files, about {sample} of them printed");
+    println!("{lists} generated lists, about {} of the files made printed", sample / 10);
     let product = product();
     let mut tester = Tester::new(&product, Failures::Saved(in_package("failures")));
     timed("named cases", &mut tester, named::run);
+    timed("named lists", &mut tester, named_lists::run);
     timed("examples", &mut tester, run_examples);
     timed("refusals", &mut tester, refusals::run);
+    timed("refusals of lists", &mut tester, list_refusals::run);
     timed("sweeps", &mut tester, sweeps::run);
+    timed("limits of lists", &mut tester, list_limits::run);
     timed("generated files", &mut tester, |t| generated_run::run(t, seed, files, sample));
+    timed("generated lists", &mut tester, |t| list_run::run(t, seed, lists, sample / 10));
     let missing = tester.coverage.print();
     for name in &missing {
         println!("never reached: {name}");
     }
-    let (checks, files, failed) = (tester.checks, tester.files, tester.failed);
-    println!("tests: {checks} checks on {files} files, seed {seed}, {failed} differences");
+    let Tester { checks, files, lists, failed, .. } = tester;
+    let cases = format!("{files} files and {lists} lists");
+    println!("tests: {checks} checks on {cases}, seed {seed}, {failed} differences");
     failed == 0 && missing.is_empty()
 }
 
 /// Runs a part, and prints what it did and how long it took.
 fn timed(name: &str, tester: &mut Tester, part: impl FnOnce(&mut Tester)) {
-    let (files, failed, start) = (tester.files, tester.failed, Instant::now());
+    let (files, lists, failed) = (tester.files, tester.lists, tester.failed);
+    let start = Instant::now();
     part(tester);
-    let (files, failed) = (tester.files - files, tester.failed - failed);
-    println!("{name}: {files} files, {failed} differences, {:.1} s", start.elapsed().as_secs_f64());
+    let seconds = start.elapsed().as_secs_f64();
+    let (files, lists, failed) =
+        (tester.files - files, tester.lists - lists, tester.failed - failed);
+    println!("{name}: {files} files, {lists} lists, {failed} differences, {seconds:.1} s");
 }
 
 fn run_examples(tester: &mut Tester) {
@@ -138,6 +165,28 @@ fn compare_files(paths: &[&str]) -> bool {
         print!("{}", calculator::printed(&file));
         tester.file(path, &file);
         tester.print(path, &file);
+    }
+    println!("{} checks, {} differences", tester.checks, tester.failed);
+    tester.failed == 0
+}
+
+fn compare_lists(paths: &[&str]) -> bool {
+    let product = product();
+    let mut tester = Tester::new(&product, Failures::Printed);
+    for path in paths {
+        let numbers = match failures::read_list(path) {
+            Ok(numbers) => numbers,
+            Err(error) => {
+                println!("{path}: {error}");
+                return false;
+            }
+        };
+        let made = calculator::encode(&numbers, usize::MAX);
+        println!("{path}, as the calculator makes it: {made:?}");
+        tester.list(path, &numbers);
+        if made.is_ok() {
+            tester.print_made(path, &numbers);
+        }
     }
     println!("{} checks, {} differences", tester.checks, tester.failed);
     tester.failed == 0

@@ -1,6 +1,6 @@
 //! A second path, apart from the calculator, that stands in for the product: it reads raw bytes,
-//! gathers all breaches of 01's table and takes the least. Its steps are in mock_steps.rs. It can
-//! be told to make one mistake.
+//! gathers all breaches of 01's table and takes the least. Its steps are in mock_steps.rs, and its
+//! making of files in mock_encode.rs. It can be told to make one mistake.
 
 use std::io;
 
@@ -31,7 +31,7 @@ impl Mock {
     }
 
     /// The refusal of a file, as number and place; 0 and 0 if there is none.
-    fn refusal(&self, file: &[u8]) -> (u64, u64) {
+    pub fn refusal(&self, file: &[u8]) -> (u64, u64) {
         let header = self.header_refusal(file);
         if header != 0 {
             return (header, 0);
@@ -119,7 +119,7 @@ impl Mock {
         (14..).zip(breached).filter(|(_, breached)| *breached).map(|(number, _)| number)
     }
 
-    fn reply(&self, (number, place): (u64, u64)) -> Reply {
+    pub fn reply(&self, (number, place): (u64, u64)) -> Reply {
         let unwritten = number == 0 && self.makes(Mistake::PlaceLeftUnwritten);
         Reply { number, place: if unwritten { UNWRITTEN } else { place } }
     }
@@ -166,6 +166,10 @@ impl Product for Mock {
         }
         let by_length = self.makes(Mistake::SitesFromListLength);
         (self.reply(refusal), if by_length { list.len() as u64 / 11 } else { file[6] as u64 })
+    }
+
+    fn encode(&self, numbers: &[u32], file: &mut [u8]) -> (Reply, u64) {
+        self.make(numbers, file)
     }
 
     fn printed(&self, file: &[u8]) -> io::Result<Vec<u8>> {

@@ -5,8 +5,9 @@
 use crate::balance::balance;
 use crate::calculator::{bill_park, bill_site, check, printed, Refusal};
 use crate::compare::Tester;
+use crate::list::site;
 use crate::park::Park;
-use crate::parks::{alder, alder_cut, one_line, site, small_park, ALDER_FILE, ALDER_PRINTED};
+use crate::parks::{alder, alder_cut, one_line, small_park, ALDER_FILE, ALDER_PRINTED};
 use crate::product::{Reply, UNWRITTEN};
 
 // Places of the eleven numbers.

@@ -1,7 +1,8 @@
 //! Park Alder and its cut neighbour (01, "Park Alder, and its neighbours"), and short ways to write
 //! other parks by hand.
 
-use crate::park::{Line, Park, Site};
+use crate::list::{line, site};
+use crate::park::Park;
 
 /// What parkbill prints for Park Alder.
 pub const ALDER_PRINTED: &str = "\
@@ -20,18 +21,6 @@ pub const ALDER_FILE: [u8; 99] = [
     1, 2, 1, 0xBC, 0x02, 0x10, 0x27, 0, 0, 0xA0, 0x0F, 0, 0, 0, 0, 0, 0, 0, 0, 0, 0,
     0, 2, 0, 0x9D, 0x02, 0x88, 0x13, 0, 0, 0, 0, 0, 0, 0, 0, 0, 0, 0, 0, 0, 0,
 ];
-
-/// A line from its eight fields in the paper's order: from, to, mark, D, WP, WQ, WG, WN.
-pub fn line([from, to, meters, eerp, active, reactive, generated, night]: [u32; 8]) -> Line {
-    let (from, to, meters, eerp) = (from as u8, to as u8, meters as u8, eerp as u16);
-    Line { from, to, meters, eerp, active, reactive, generated, night }
-}
-
-/// A site from its five fields in the paper's order: power, flag, Q, P, h.
-pub fn site([power, flag, compensation, motors, discount]: [u32; 5]) -> Site {
-    let (compensation, motors) = (compensation as u16, motors as u16);
-    Site { power, flag: flag as u8, compensation, motors, discount: discount as u16 }
-}
 
 /// Park Alder.
 pub fn alder() -> Park {
@@ -64,4 +53,32 @@ pub fn small_park(price: u32, sites: &[[u32; 5]], lines: &[[u32; 8]]) -> Park {
 /// A park of one plain site, fed by one metered line with this D, WP and WQ.
 pub fn one_line(price: u32, eerp: u32, active: u32, reactive: u32) -> Park {
     small_park(price, &[[400, 0, 0, 0, 0]], &[[0, 1, 1, eerp, active, reactive, 0, 0]])
+}
+
+/// Five sites, nine lines: a chain with a line beside it, feeds of its own and two lines back.
+pub fn five_sites() -> Park {
+    let ends = [(0, 1), (1, 2), (2, 3), (0, 4), (2, 3), (3, 0), (4, 5), (0, 5), (5, 0)];
+    let marks = [7, 3, 1, 0, 2, 6, 7, 0, 1];
+    let lines = ends.iter().zip(marks).map(|((from, to), mark)| {
+        line([*from, *to, mark, 700, 5_000, mark % 2 * 3_000, mark / 2 % 2 * 900, mark / 4 * 400])
+    });
+    Park { sites: vec![site([400, 1, 50, 20, 100]); 5], lines: lines.collect(), ..alder() }
+}
+
+/// Sixteen sites in a chain, and lines of every kind up to 64.
+pub fn largest_park() -> Park {
+    let chain = (1..=16).map(|to| (to - 1, to));
+    let feeds = (1..=16).map(|to| (0, to));
+    let skips = (1..=16).map(|from| (from, if from < 15 { from + 2 } else { 0 }));
+    let back = (1..=16).map(|from| (from, 0));
+    let lines =
+        chain.chain(feeds).chain(skips).chain(back).enumerate().map(|(index, (from, to))| {
+            line([from, to, [7, 0, 3][index % 3], 5_000, 10_000_000, 0, 0, 0])
+        });
+    Park { sites: vec![site([16, 1, 0, 0, 0]); 16], lines: lines.collect(), ..alder() }
+}
+
+/// First, middle and last.
+pub fn places(count: usize) -> [usize; 3] {
+    [1, count / 2 + 1, count]
 }

@@ -1,4 +1,4 @@
-//! The product under test, behind a trait: its three exported C calls and its program parkbill.
+//! The product under test, behind a trait: its four exported C calls and its program parkbill.
 //!
 //! Every place that a call should write holds `UNWRITTEN` before it, so that a place it leaves
 //! alone is seen.
@@ -11,7 +11,7 @@ use park::c;
 
 use crate::steps::Bill;
 
-/// What a reply's place and site count hold before the call.
+/// What a reply's place, site count and size hold before the call.
 pub const UNWRITTEN: u64 = 0x5EED_5EED_5EED_5EED;
 
 /// The number that a call returns (0 if it refuses nothing), and the place it writes.
@@ -29,6 +29,10 @@ pub trait Product {
 
     /// Bills the park into `list`, which a refusal leaves as it was; also gives the site count.
     fn bill_park(&self, file: &[u8], list: &mut [u64]) -> (Reply, u64);
+
+    /// Makes the file of a list of numbers in `file`, which a refusal leaves as it was; also gives
+    /// the file's length.
+    fn encode(&self, numbers: &[u32], file: &mut [u8]) -> (Reply, u64);
 
     /// What the program prints for this file on its standard input.
     fn printed(&self, file: &[u8]) -> io::Result<Vec<u8>>;
@@ -64,6 +68,17 @@ impl Product for Linked {
             c::park_bill_park(file_ptr, file.len(), list_ptr, list_len, &mut place, &mut sites)
         };
         (Reply { number, place }, sites)
+    }
+
+    fn encode(&self, numbers: &[u32], file: &mut [u8]) -> (Reply, u64) {
+        let (mut place, mut size) = (UNWRITTEN, UNWRITTEN);
+        let (file_ptr, file_len) = (file.as_mut_ptr(), file.len());
+        // SAFETY: as in `check`; both lengths are the slices' own.
+        let number = unsafe {
+            let numbers_ptr = numbers.as_ptr();
+            c::park_encode(numbers_ptr, numbers.len(), file_ptr, file_len, &mut place, &mut size)
+        };
+        (Reply { number, place }, size)
     }
 
     fn printed(&self, file: &[u8]) -> io::Result<Vec<u8>> {

@@ -6,7 +6,7 @@ use crate::breaches::{of_header, of_inputs, of_line, of_site, Breach};
 use crate::calculator::{check, Refusal};
 use crate::compare::Tester;
 use crate::park::Park;
-use crate::parks::{alder, line, site};
+use crate::parks::{five_sites, largest_park, places};
 use crate::product::Reply;
 
 pub fn run(tester: &mut Tester) {
@@ -21,35 +21,8 @@ pub fn run(tester: &mut Tester) {
     printed_refusals(tester);
 }
 
-/// Five sites, nine lines: a chain with a line beside it, feeds of its own and two lines back.
-fn five_sites() -> Park {
-    let ends = [(0, 1), (1, 2), (2, 3), (0, 4), (2, 3), (3, 0), (4, 5), (0, 5), (5, 0)];
-    let marks = [7, 3, 1, 0, 2, 6, 7, 0, 1];
-    let lines = ends.iter().zip(marks).map(|((from, to), mark)| {
-        line([*from, *to, mark, 700, 5_000, mark % 2 * 3_000, mark / 2 % 2 * 900, mark / 4 * 400])
-    });
-    Park { sites: vec![site([400, 1, 50, 20, 100]); 5], lines: lines.collect(), ..alder() }
-}
-
-/// Sixteen sites in a chain, and lines of every kind up to 64.
-fn largest_park() -> Park {
-    let chain = (1..=16).map(|to| (to - 1, to));
-    let feeds = (1..=16).map(|to| (0, to));
-    let skips = (1..=16).map(|from| (from, if from < 15 { from + 2 } else { 0 }));
-    let back = (1..=16).map(|from| (from, 0));
-    let lines =
-        chain.chain(feeds).chain(skips).chain(back).enumerate().map(|(index, (from, to))| {
-            line([from, to, [7, 0, 3][index % 3], 5_000, 10_000_000, 0, 0, 0])
-        });
-    Park { sites: vec![site([16, 1, 0, 0, 0]); 16], lines: lines.collect(), ..alder() }
-}
-
-/// First, middle and last.
-fn places(count: usize) -> [usize; 3] {
-    [1, count / 2 + 1, count]
-}
-
-fn all_breaches(park: &Park) -> Vec<Breach> {
+/// Breaches of every rule, at first, middle and last places.
+pub fn all_breaches(park: &Park) -> Vec<Breach> {
     let mut breaches = of_header(park);
     for place in places(park.sites.len()) {
         breaches.extend(of_site(place));

@@ -1,8 +1,9 @@
-//! What is refused, and in which order (01, "Where each thing is checked"): rules 1 to 19.
-//! Rules 20 and 21 belong to the calls, in calculator.rs.
+//! What is refused, and in which order (01, "Where each thing is checked"): rules 1 to 19, of a
+//! file and of a list of its numbers (02, R-1). Rules 20 to 22 belong to the calls, in
+//! calculator.rs.
 
-use crate::park::{number_at, Line, Park, Site};
-use crate::park::{HEADER_BYTES, LINE_BYTES, MONTH_HOURS, SITE_BYTES};
+use crate::list::HEADER_NUMBERS;
+use crate::park::{number_at, Header, Line, Park, Site, HEADER_BYTES, MONTH_HOURS};
 
 /// A refusal: its number in the table, and its place, which is the site or line counted from 1
 /// for 10 to 19, else 0.
@@ -23,39 +24,48 @@ pub fn refuse_if(condition: bool, number: u64, place: usize) -> Result<(), Refus
 /// The park of an accepted file, or the first refusal met: the header and the length by number,
 /// then each site, then each line, then 19.
 pub fn accepted_park(file: &[u8]) -> Result<Park, Refusal> {
-    check_header(file)?;
-    check_length(file)?;
+    refuse_if(file.len() < HEADER_BYTES, 1, 0)?;
+    refuse_if(&file[0..3] != b"PRK", 2, 0)?;
+    refuse_if(number_at(file, 3, 2) != 1, 3, 0)?;
+    let header = Header::of_file(file);
+    check_header(&header)?;
+    refuse_if(file.len() != header.file_bytes(), 9, 0)?;
     let park = Park::from_file(file);
+    check_records(&park)?;
+    Ok(park)
+}
+
+/// The park of an accepted list, or the first refusal met, in the same order. A list has no
+/// letters and no version, so there is nothing for 2 and 3 to refuse.
+pub fn listed_park(numbers: &[u32]) -> Result<Park, Refusal> {
+    refuse_if(numbers.len() < HEADER_NUMBERS, 1, 0)?;
+    let header = Header::of_list(numbers);
+    check_header(&header)?;
+    refuse_if(numbers.len() != header.list_numbers(), 9, 0)?;
+    let park = Park::from_list(numbers);
+    check_records(&park)?;
+    Ok(park)
+}
+
+/// Rules 4 to 8.
+fn check_header(header: &Header) -> Result<(), Refusal> {
+    let Header { month, sites, lines, price, hours } = *header;
+    refuse_if(!(1..=12).contains(&month), 4, 0)?;
+    refuse_if(sites == 0 || sites > 16, 5, 0)?;
+    refuse_if(lines == 0 || lines > 64, 6, 0)?;
+    refuse_if(price == 0 || price > 2_000_000, 7, 0)?;
+    refuse_if(hours > MONTH_HOURS[month as usize - 1], 8, 0)
+}
+
+/// Rules 10 to 19.
+fn check_records(park: &Park) -> Result<(), Refusal> {
     for (index, site) in park.sites.iter().enumerate() {
         check_site(site, index + 1)?;
     }
     for (index, line) in park.lines.iter().enumerate() {
         check_line(line, index + 1, park.sites.len())?;
     }
-    check_inputs(&park)?;
-    Ok(park)
-}
-
-/// Rules 1 to 8.
-fn check_header(file: &[u8]) -> Result<(), Refusal> {
-    refuse_if(file.len() < HEADER_BYTES, 1, 0)?;
-    let month = file[5] as usize;
-    let (sites, lines) = (file[6], file[7]);
-    let price = number_at(file, 8, 4);
-    let hours = number_at(file, 12, 2);
-    refuse_if(&file[0..3] != b"PRK", 2, 0)?;
-    refuse_if(number_at(file, 3, 2) != 1, 3, 0)?;
-    refuse_if(!(1..=12).contains(&month), 4, 0)?;
-    refuse_if(sites == 0 || sites > 16, 5, 0)?;
-    refuse_if(lines == 0 || lines > 64, 6, 0)?;
-    refuse_if(price == 0 || price > 2_000_000, 7, 0)?;
-    refuse_if(hours > MONTH_HOURS[month - 1] as u64, 8, 0)
-}
-
-/// Rule 9.
-fn check_length(file: &[u8]) -> Result<(), Refusal> {
-    let (sites, lines) = (file[6] as usize, file[7] as usize);
-    refuse_if(file.len() != HEADER_BYTES + SITE_BYTES * sites + LINE_BYTES * lines, 9, 0)
+    check_inputs(park)
 }
 
 /// Rules 10 to 13, for one site.

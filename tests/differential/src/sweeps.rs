@@ -2,8 +2,9 @@
 //! wrong at a single value.
 
 use crate::compare::Tester;
+use crate::list::{line, site};
 use crate::park::{Park, MONTH_HOURS};
-use crate::parks::{alder, line, one_line, site, small_park};
+use crate::parks::{alder, one_line, small_park};
 
 pub fn run(tester: &mut Tester) {
     every_byte(tester);

@@ -1,6 +1,6 @@
 use mathlib.Core.Path.{sym, ap, _∙_}
 use Rattle.park_bill.specs.Reply.{parkAnswer}
-use Rattle.park_c.specs.Outcome.{numberOf, placeOf, sitesOf}
+use Rattle.park_c.specs.Outcome.{numberOf, placeOf, valueOf}
 use borrow.Author.Needs.{needs}
 use Rattle.park_c.proofs.park_bill_park.Statement.{statement}
 use Rattle.park_c.proofs.park_bill_park.Tie as tie
@@ -28,7 +28,7 @@ returns c =
     let called : tie.After-bill-park = search in
     let refused : tie.After-refused = search in
     let e = sym (ap parkAnswer (refused .refused .given .1)) ∙ called .bill-park .ensures .0 in
-    (ap numberOf e, (called .bill-park .ensures .1 .0, (ap placeOf e, (ap sitesOf e, called .bill-park .ensures .1 .1))))
+    (ap numberOf e, (called .bill-park .ensures .1 .0, (ap placeOf e, (ap valueOf e, called .bill-park .ensures .1 .1))))
 
 same-length-2 : tie.Need-same-length-2
 same-length-2 c = search needs
@@ -38,7 +38,7 @@ returns-2 c =
     let called : tie.After-bill-park = search in
     let billed : tie.After-count = search in
     let e = sym (ap parkAnswer (billed .count .given .1)) ∙ called .bill-park .ensures .0 in
-    (ap numberOf e, (called .bill-park .ensures .1 .0, (ap placeOf e, (ap sitesOf e, called .bill-park .ensures .1 .1))))
+    (ap numberOf e, (called .bill-park .ensures .1 .0, (ap placeOf e, (ap valueOf e, called .bill-park .ensures .1 .1))))
 
 pub park-bill-park-spec : {M : Type 1} → statement M
 park-bill-park-spec =

@@ -9,8 +9,8 @@ use lib.Dec.{eqb, ltb}
 use Rattle.park_format.specs.Park.{inputs}
 use Rattle.park_format.specs.Rules.{isEmpty}
 use Rattle.park_format.specs.declared.line.Line.{Line}
-use Rattle.park_format.specs.declared.file.Walked.{Walked}
-use Rattle.park_format.specs.declared.file.Walked.the-variants.{Refused, Fed}
+use Rattle.park_format.specs.declared.fed.Walked.{Walked}
+use Rattle.park_format.specs.declared.fed.Walked.the-variants.{Refused, Fed}
 
 unfoldable pub has : ℕ → ℕ → Bool
 has set zero = eqb (set % 2) 1

@@ -1,7 +1,6 @@
--- A file as long as its header says, so that each record lies within it.
+-- A header of at most 16 sites and 64 lines, and bytes enough for a file with it, so that each record lies within them.
 -- Assumes nothing.
 use Prim.Native.Nat.{ℕ, _≤_}
-use mathlib.Core.Path.{_≡_}
 use Rattle.park_format.specs.Limits.{mostLines, mostSites}
 use Rattle.park_format.specs.Rules.{sizeOf}
 use Rattle.park_format.specs.declared.header.Header.{Header}
@@ -9,4 +8,4 @@ use Rattle.park_format.specs.declared.header.Header.{Header}
 pub record Sized (h : Header) (bytes : ℕ) : Type 0 where
   pub sites : h .sites ≤ mostSites
   pub lines : h .lines ≤ mostLines
-  pub size : bytes ≡ sizeOf h
+  pub size : sizeOf h ≤ bytes

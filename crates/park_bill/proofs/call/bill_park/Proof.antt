@@ -13,7 +13,8 @@ use Rattle.park_format.specs.declared.header.Header.{Header}
 use Rattle.park_format.proofs.Accepted.{header-fits}
 use Rattle.park_bill.specs.Balance.{InBalance}
 use Rattle.park_bill.specs.Bill.{billNumbers}
-use Rattle.park_bill.specs.Reply.{answer, billsOf, listAfter, unlessRefused}
+use Rattle.park_format.specs.Call.{answer, unlessRefused}
+use Rattle.park_bill.specs.Reply.{billsOf, listAfter}
 use Rattle.park_bill.proofs.Outcomes.{loss-balance}
 use Rattle.park_bill.proofs.Refusals.{call-allows, call-refuses, file-first}
 use borrow.Author.Needs.{needs}

@@ -12,7 +12,7 @@ use Rattle.park_format.specs.declared.header.Header.{Header}
 use Rattle.park_format.proofs.Accepted.{header-fits}
 use Rattle.park_format.proofs.Rules.{within}
 use Rattle.park_bill.specs.Bill.{bill}
-use Rattle.park_bill.specs.Reply.{answer}
+use Rattle.park_format.specs.Call.{answer}
 use Rattle.park_bill.specs.declared.bill.Bill.{Bill}
 use Rattle.park_bill.proofs.Outcomes.{site-in-balance}
 use Rattle.park_bill.proofs.Refusals.{call-allows, call-refuses, file-first}

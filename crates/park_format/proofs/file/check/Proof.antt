@@ -6,11 +6,12 @@ use mathlib.Core.Option.{some}
 use denote.Ref.{now}
 use lib.Dec.{eqb}
 use lib.ListN.{length}
-use Rattle.park_format.specs.Park.{headerOf}
+use Rattle.park_format.specs.Inner.Sized.{Sized}
+use Rattle.park_format.specs.Park.{headerOf, lineOf, siteOf}
 use Rattle.park_format.specs.Rules.{firstBroken, hasWrongLength, headerRules, refusal, refusalAt, refusalOf, sizeOf}
 use Rattle.park_format.specs.declared.header.Header.{Header}
 use Rattle.park_format.proofs.Rules.{passes-at, refuses-at}
-use Rattle.park_format.proofs.Verdict.{Headed, header-refused, inputs-decide, lines-refused, lowest-unfed, sites-refused, sized, too-short}
+use Rattle.park_format.proofs.Verdict.{file-table, Headed, header-refused, inputs-decide, lines-refused, lowest-unfed, sites-refused, sized, Table, too-short}
 use borrow.Author.Needs.{needs}
 use Rattle.park_format.proofs.file.check.Statement.{statement}
 use Rattle.park_format.proofs.file.check.Tie as tie
@@ -33,11 +34,17 @@ module _ (b : tie.After-broken) where
   looked : refusalAt (b .broken .result) 0 ≡ firstBroken (headerRules (hasWrongLength file) header)
   looked = b .broken .ensures ∙ ap (λ t. firstBroken (headerRules t header)) (length-test file header _ (read-stage .read .ensures) (b .before .size .ensures))
 
-  refused : (b .broken .result ≡ 0 → ⊥) → some (b .broken .result, 0) ≡ refusal file
-  refused h = header-refused file header (read-stage .read .ensures) (search needs) (sym (refuses-at (b .broken .result) 0 h) ∙ looked)
+  table : Table (hasWrongLength file) header (siteOf header file) (lineOf header file) (refusal file)
+  table = file-table file header (read-stage .read .ensures) (search needs)
 
-  headed : b .broken .result ≡ 0 → Headed file header
-  headed h = record { read = read-stage .read .ensures; long = search needs; sound = sym (passes-at (b .broken .result) 0 h) ∙ looked }
+  refused : (b .broken .result ≡ 0 → ⊥) → some (b .broken .result, 0) ≡ refusal file
+  refused h = header-refused _ header (siteOf header file) (lineOf header file) table (sym (refuses-at (b .broken .result) 0 h) ∙ looked)
+
+  headed : b .broken .result ≡ 0 → Headed (hasWrongLength file) header (siteOf header file) (lineOf header file) (refusal file)
+  headed h = record { table = table; sound = sym (passes-at (b .broken .result) 0 h) ∙ looked }
+
+  long-enough : b .broken .result ≡ 0 → Sized header (length file)
+  long-enough h = sized file header (read-stage .read .ensures) (headed h .sound)
 
 returns : tie.Need-returns
 returns c = too-short _ (c .if1 .taken)
@@ -55,7 +62,7 @@ returns-2 : tie.Need-returns-2
 returns-2 c = refused (c .before) (c .if2 .taken)
 
 check-sites-requires : tie.Need-check-sites-requires
-check-sites-requires c κs = sized _ _ (headed (c .before) (c .if2 .left))
+check-sites-requires c κs = long-enough (c .before) (c .if2 .left)
 
 enum-known-r : tie.Need-enum-known-r
 enum-known-r c = search needs
@@ -64,7 +71,7 @@ returns-3 : tie.Need-returns-3
 returns-3 c =
     let e : tie.Else2 = search in
     let w : tie.After-check-sites = search in
-    sites-refused _ _ (headed (e .before) (e .if2 .left)) (sym (ap refusalOf (c .before .r .given .1)) ∙ w .check-sites .ensures)
+    sites-refused _ _ _ _ (headed (e .before) (e .if2 .left)) (sym (ap refusalOf (c .before .r .given .1)) ∙ w .check-sites .ensures)
 
 enum-told : tie.Need-enum-told
 enum-told c = search needs
@@ -72,7 +79,7 @@ enum-told c = search needs
 check-lines-requires : tie.Need-check-lines-requires
 check-lines-requires c κs =
     let e : tie.Else2 = search in
-    sized _ _ (headed (e .before) (e .if2 .left))
+    long-enough (e .before) (e .if2 .left)
 
 enum-known-r-2 : tie.Need-enum-known-r-2
 enum-known-r-2 c = search needs
@@ -90,7 +97,7 @@ returns-4 c =
     let t : tie.After-enum-told = search in
     let sites = sym (ap refusalOf (t .enum-told .given .1)) ∙ w .check-sites .ensures in
     let l : tie.After-check-lines = search in
-    lines-refused _ _ (headed (e .before) (e .if2 .left)) sites (rw (c .before .r2 .given .1) at (l .check-lines .ensures))
+    lines-refused _ _ _ _ (headed (e .before) (e .if2 .left)) sites (rw (c .before .r2 .given .1) at (l .check-lines .ensures))
 
 returns-5 : tie.Need-returns-5
 returns-5 c =
@@ -102,8 +109,8 @@ returns-5 c =
     let head = headed (e .before) (e .if2 .left) in
     let walked = rw (c .before .before .fed .given .1) at (l .check-lines .ensures) in
     c .check .ensures .decides
-    ∙ lowest-unfed _ _ _ (c .check .ensures .low) (walked .1) (c .check .ensures .lowest) (header (e .before) .sites) (sized _ _ head .sites)
-    ∙ inputs-decide _ _ head sites (walked .0)
+    ∙ lowest-unfed _ _ _ (c .check .ensures .low) (walked .1) (c .check .ensures .lowest) (header (e .before) .sites) (long-enough (e .before) (e .if2 .left) .sites)
+    ∙ inputs-decide _ _ _ _ head sites (walked .0)
 
 pub check-spec : {M : Type 1} → statement M
 check-spec =

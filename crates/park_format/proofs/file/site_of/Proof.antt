@@ -3,11 +3,8 @@ use borrow.Author.Needs.{needs}
 use Rattle.park_format.proofs.file.site_of.Statement.{statement}
 use Rattle.park_format.proofs.file.site_of.Tie as tie
 
-mul-read : tie.Need-mul-read
-mul-read c = search needs
-
-add-read : tie.Need-add-read
-add-read c = search needs
+site-start-requires : tie.Need-site-start-requires
+site-start-requires c κs = search needs
 
 read-requires : tie.Need-read-requires
 read-requires c κs = search needs
@@ -17,4 +14,4 @@ unfolding siteOf
 returns c = cc
 
 pub site-of-spec : {M : Type 1} → statement M
-site-of-spec = tie.close (tie.spec mul-read add-read read-requires returns)
+site-of-spec = tie.close (tie.spec site-start-requires read-requires returns)

@@ -1,0 +1,10 @@
+pub mod Records
+pub mod Table
+pub mod Accepted
+pub mod Written
+pub mod Numbers
+pub mod Refusals
+pub mod Laws
+pub mod Refused
+pub mod Counts
+pub mod CaseTest
