@@ -105,7 +105,7 @@ fn is_good_site(numbers: &[u32; SITE_NUMBERS]) -> bool {
         && discount <= 1_000
 }
 
-/// Whether the lines keep rules 14 to 19. The readings of all lines are asked at once, at the end.
+/// Whether the lines keep their rules and 19. The readings of all lines are asked at once, last.
 #[inline(always)]
 fn are_good_lines(list: &List) -> bool {
     let places = list.sites.len() as u32 + 1;
@@ -175,7 +175,7 @@ fn write_line(record: &mut [u8; LINE_BYTES], numbers: &[u32; LINE_NUMBERS]) {
     }
 }
 
-/// The first refusal of a list among rules 1 to 19, by the rules for files: a number too large for
+/// The first refusal of a list by the table, with the rules for files: a number too large for
 /// its field becomes the most that the field holds, which is refused by the same rule.
 #[cold]
 #[inline(never)]

@@ -1,5 +1,5 @@
-//! Rules 1 to 19 for plain.rs, twice: one quick test for each record, and the rules by number,
-//! which encode.rs shares.
+//! The rules of the table for plain.rs, twice: one quick test for each record, and the rules by
+//! number, which encode.rs shares.
 //!
 //! A good file takes the same way through the quick tests whatever its meters and ends are: a
 //! branch on them would be guessed wrongly half of the time. The rules by number are looked at only
@@ -9,7 +9,7 @@ use crate::records::{Header, Line, Site, HEADER_BYTES, LINE_BYTES, SITE_BYTES};
 use crate::records::{GENERATED_METER, MOST_EERP, MOST_READING, NIGHT_METER, REACTIVE_METER};
 
 /// A refusal: its number in the table, and its place, which is the site or line counted from 1
-/// for 10 to 19, else 0.
+/// for 10 to 19, 23 and 24, else 0.
 pub struct Refusal {
     pub number: u64,
     pub place: u64,
@@ -48,7 +48,7 @@ pub fn parts(file: &[u8]) -> Option<Parts<'_>> {
     Some(Parts { price: header.price as u64, hours: header.hours as u64, sites, lines })
 }
 
-/// Whether the lines keep rules 14 to 19. Hands on each one that keeps 14 to 18, with its place
+/// Whether the lines keep their rules and 19. Hands on each one that keeps its own, with its place
 /// counted from 0, though a later one may be refused.
 #[inline(always)]
 pub fn are_good(parts: &Parts, mut each: impl FnMut(&Line, usize)) -> bool {
@@ -96,7 +96,7 @@ impl Site {
 }
 
 impl Line {
-    /// Whether it keeps rules 14 to 18 in a park with so many places, the network being one.
+    /// Whether it keeps its rules in a park with so many places, the network being one.
     #[inline(always)]
     fn is_good(&self, places: usize) -> bool {
         let mark = self.mark();
@@ -115,12 +115,16 @@ impl Line {
             && !over
     }
 
-    /// The number of the first of rules 14 to 18 that the line breaks.
+    /// The number of the first of rules 14, 23, 24 and 15 to 18 that the line breaks.
     fn broken(&self, sites: u8) -> Option<u64> {
         let (from, to) = (self.from, self.to);
         let unmetered = |meter: u8, reading: u32| self.meters & meter == 0 && reading != 0;
-        if from > sites || to > sites || (from == 0 && to == 0) || (to != 0 && from >= to) {
+        if from > sites || to > sites {
             Some(14)
+        } else if from == 0 && to == 0 {
+            Some(23)
+        } else if from != 0 && to != 0 && from >= to {
+            Some(24)
         } else if self.meters > 7 || self.meters & 6 == NIGHT_METER {
             Some(15)
         } else if self.eerp == 0 || self.eerp > MOST_EERP {
@@ -139,7 +143,7 @@ impl Line {
     }
 }
 
-/// The first refusal of a file among rules 1 to 19, in 01's order.
+/// The first refusal of a file by the table, in its order.
 #[cold]
 #[inline(never)]
 pub fn first_refusal(file: &[u8]) -> Option<Refusal> {
@@ -156,7 +160,7 @@ pub fn first_refusal(file: &[u8]) -> Option<Refusal> {
     first_broken(header.sites, sites, lines.as_chunks().0.iter().map(Line::read))
 }
 
-/// The first refusal among rules 10 to 19.
+/// The first refusal by the rules of sites and lines, and 19.
 pub fn first_broken(
     site_count: u8,
     sites: impl Iterator<Item = Site>,

@@ -53,6 +53,33 @@ fn a_refusal_leaves_the_buffer() {
     assert_eq!(file, [7; 100]);
 }
 
+/// Line 2 of Alder with these ends.
+fn with_ends(from: u8, to: u8) -> (Vec<u8>, [u32; 39]) {
+    let (mut file, mut numbers) = (ALDER.to_vec(), NUMBERS);
+    file[57..59].copy_from_slice(&[from, to]);
+    numbers[23..25].copy_from_slice(&[from.into(), to.into()]);
+    (file, numbers)
+}
+
+#[test]
+fn the_ends_of_a_line_are_told_apart() {
+    for (from, to, number) in [(1, 3, 14), (3, 2, 14), (0, 0, 23), (2, 1, 24), (2, 2, 24)] {
+        let (file, numbers) = with_ends(from, to);
+        let refusal = Refusal { number, place: 2 };
+        assert_eq!(check(&file), Err(refusal));
+        assert_eq!(bill_site(&file, 1), Err(refusal));
+        let mut list = [7; 22];
+        assert_eq!(bill_park(&file, &mut list), Err(refusal));
+        assert_eq!(list, [7; 22]);
+        let mut made = [7; 99];
+        assert_eq!(encode(&numbers, &mut made), Err(refusal));
+        assert_eq!(made, [7; 99]);
+    }
+    let (file, numbers) = with_ends(1, 0);
+    assert_eq!(check(&file), Ok(()));
+    assert_eq!(encode(&numbers, &mut [7; 99]), Ok(99));
+}
+
 #[test]
 fn refusals_have_number_and_place() {
     let mut file = ALDER.to_vec();

@@ -3,13 +3,13 @@
 use mathlib.Core.Path.{refl}
 use Rattle.park_format.specs.Made.{bytesFor, bytesOf, fileOf, joined}
 use Rattle.park_format.specs.Park.{listOf, select}
-use Rattle.park_format.specs.Rules.{each, firstBroken, headerRules, inputRules, lineRules, mostHours, rulesOf, siteRules}
+use Rattle.park_format.specs.Rules.{each, firstBroken, headerRules, inputRules, lineRules, mostHours, rulesWith, siteRules}
 use Rattle.park_encode.specs.Cases.{ListCases}
 use Rattle.park_encode.specs.Encode.{listRefusal, listRules}
 use Rattle.park_encode.specs.Numbers.{listHeader, listLine, listPark, listSite}
 
 pub list-cases : ListCases
-unfolding bytesFor bytesOf each fileOf firstBroken headerRules inputRules joined lineRules listHeader listLine listOf listPark listRefusal listRules listSite mostHours rulesOf select siteRules
+unfolding bytesFor bytesOf each fileOf firstBroken headerRules inputRules joined lineRules listHeader listLine listOf listPark listRefusal listRules listSite mostHours rulesWith select siteRules
 list-cases =
     record {
       alder = refl;
@@ -33,4 +33,10 @@ list-cases =
       to = refl;
       mark = refl;
       eerp = refl;
+      above = refl;
+      network = refl;
+      itself = refl;
+      backwards = refl;
+      twoLines = refl;
+      backToNetwork = refl;
     }

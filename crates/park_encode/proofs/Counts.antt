@@ -11,6 +11,7 @@ use lib.Dec.{lit≤}
 use lib.ListN.{length}
 use Rattle.park_format.specs.Rules.{firstBroken, headerRules}
 use Rattle.park_format.specs.declared.header.Header.{Header}
+use Rattle.park_format.proofs.Rules.{same-refusal}
 use Rattle.park_format.proofs.Said.{before-nine, first-says, nine-decides, table-says}
 use Rattle.park_format.proofs.Verdict.{header-refused}
 use Rattle.park_encode.specs.Encode.{hasTooFew, hasWrongCount, listRefusal, listRules}
@@ -18,18 +19,15 @@ use Rattle.park_encode.specs.Numbers.{headerFields, listHeader, listLine
 use Rattle.park_encode.specs.Refused.{TooFew, WrongCount}
 use Rattle.park_encode.proofs.Table.{few-refused, list-table}
 
-same : {q r : ℕ × ℕ} → some q ≡ some r → q ≡ r
-same e = cc
-
 module _ (numbers : List ℕ) where
-  -- what holds of 4 to 8 and of 10 to 19, of 1 where there are too few numbers and of 9 where their count is wrong holds of the refusal
-  says : (P : ℕ → Type 0) → (hasTooFew numbers ≡ true → P 1) → ((n : ℕ) → 4 ≤ n → n ≤ 8 → P n) → (hasWrongCount numbers ≡ true → P 9) → ((n : ℕ) → 10 ≤ n → n ≤ 19 → P n) → (r : ℕ × ℕ) → listRefusal numbers ≡ some r → P (r .0)
+  -- what holds of 4 to 8 and from 10 on, of 1 where there are too few numbers and of 9 where their count is wrong holds of the refusal
+  says : (P : ℕ → Type 0) → (hasTooFew numbers ≡ true → P 1) → ((n : ℕ) → 4 ≤ n → n ≤ 8 → P n) → (hasWrongCount numbers ≡ true → P 9) → ((n : ℕ) → 10 ≤ n → P n) → (r : ℕ × ℕ) → listRefusal numbers ≡ some r → P (r .0)
   unfolding listRefusal listRules listPark listHeader headerRules
   says P one header nine rest r e =
       first-says P (listRules numbers)
       (table-says P (hasTooFew numbers) (hasWrongCount numbers) (listPark numbers) one
       (λ e. absurd (true≢false (sym e)), (λ e. absurd (true≢false (sym e)), (λ e. header 4 (lit≤ tt) (lit≤ tt), (λ e. header 5 (lit≤ tt) (lit≤ tt), (λ e. header 6 (lit≤ tt) (lit≤ tt), (λ e. header 7 (lit≤ tt) (lit≤ tt), (λ e. header 8 (lit≤ tt) (lit≤ tt), (nine, tt))))))))
-      rest)
+      (λ n low own. rest n low))
       e
 
 pub too-few : TooFew
@@ -41,9 +39,9 @@ too-few numbers place = (
     by : (b : Bool) → hasTooFew numbers ≡ b → listRefusal numbers ≡ some (1, place) → (place ≡ 0) × (length numbers < headerFields)
     by true q e =
         let few = ltb-true (length numbers) headerFields q in
-        (ap (λ (q : ℕ × ℕ). q .1) (sym (same (few-refused numbers few ∙ e))), few)
+        (ap (λ (q : ℕ × ℕ). q .1) (sym (same-refusal (few-refused numbers few ∙ e))), few)
     by false q e =
-        let above = says numbers (λ (n : ℕ). 4 ≤ n) (λ t. absurd (true≢false (sym t ∙ q))) (λ n low high. low) (λ w. lit≤ tt) (λ n low high. omega arith) (1, place) e in
+        let above = says numbers (λ (n : ℕ). 4 ≤ n) (λ t. absurd (true≢false (sym t ∙ q))) (λ n low high. low) (λ w. lit≤ tt) (λ n low. omega arith) (1, place) e in
         absurd (omega arith)
 
 module _ (numbers : List ℕ) where
@@ -64,14 +62,14 @@ module _ (numbers : List ℕ) where
         by : (b : Bool) → hasWrongCount numbers ≡ b → b ≡ true
         by true q = refl
         by false q =
-            absurd (says numbers (λ (n : ℕ). n ≡ 9 → ⊥) (λ t z. omega arith) (λ n low high z. omega arith) (λ t. absurd (true≢false (sym t ∙ q))) (λ n low high z. omega arith) (9, place) e refl)
+            absurd (says numbers (λ (n : ℕ). n ≡ 9 → ⊥) (λ t z. omega arith) (λ n low high z. omega arith) (λ t. absurd (true≢false (sym t ∙ q))) (λ n low z. omega arith) (9, place) e refl)
 
     five : headerFields ≤ length numbers
     five = by (hasTooFew numbers) refl
       where
         by : (b : Bool) → hasTooFew numbers ≡ b → headerFields ≤ length numbers
         by true q =
-            let one = ap (λ (r : ℕ × ℕ). r .0) (same (few-refused numbers (ltb-true (length numbers) headerFields q) ∙ e)) in
+            let one = ap (λ (r : ℕ × ℕ). r .0) (same-refusal (few-refused numbers (ltb-true (length numbers) headerFields q) ∙ e)) in
             absurd (omega (arith, one))
         by false q = ltb-false (length numbers) headerFields q
 
@@ -82,13 +80,13 @@ module _ (numbers : List ℕ) where
         by none q = refl
         by (some r) q =
             let before = before-nine h (hasWrongCount numbers) q in
-            let nine = ap (λ (p : ℕ × ℕ). p .0) (same (sym (its-header five (before .0)) ∙ e)) in
+            let nine = ap (λ (p : ℕ × ℕ). p .0) (same-refusal (sym (its-header five (before .0)) ∙ e)) in
             absurd (omega (arith, before .1, nine))
 
 pub wrong-count : WrongCount
 wrong-count numbers place = (
   λ e.
-      let nine = same (sym e ∙ said-nine numbers (five numbers e) (header numbers e) (wrong numbers e)) in
+      let nine = same-refusal (sym e ∙ said-nine numbers (five numbers e) (header numbers e) (wrong numbers e)) in
       (ap (λ (r : ℕ × ℕ). r .1) nine, record { five = five numbers e; header = header numbers e; count = λ right. true≢false (sym (wrong numbers e) ∙ ap not (eq-eqb (length numbers) _ right)) }),
   λ m.
       said-nine numbers (m .1 .five) (m .1 .header) (ap not (ne-eqb (length numbers) _ (m .1 .count)))

@@ -7,7 +7,7 @@ use mathlib.Core.Option.{none, some}
 use native.Mathlib.Omega.{arith}
 use lib.ListN.{length}
 use borrow.Author.Tests.{eqb-true, le-ltb, lt-ltb, not-false}
-use Rattle.park_format.specs.Rules.{firstBroken, headerRules, rulesOf, sizeOf}
+use Rattle.park_format.specs.Rules.{firstBroken, headerRules, rulesWith, sizeOf}
 use Rattle.park_format.specs.declared.header.Header.{Header}
 use Rattle.park_format.proofs.Accepted.{kept-fields, right-length}
 use Rattle.park_format.proofs.Verdict.{Table}
@@ -16,7 +16,7 @@ use Rattle.park_encode.specs.Inner.Counted.{Counted}
 use Rattle.park_encode.specs.Numbers.{headerFields, listCount, listHeader, listLine, listPark, listSite}
 
 pub few-refused : (numbers : List ℕ) → length numbers < headerFields → some (1, 0) ≡ listRefusal numbers
-unfolding listRefusal listRules rulesOf firstBroken
+unfolding listRefusal listRules rulesWith firstBroken
 few-refused numbers h = rw (lt-ltb (length numbers) headerFields h)
 
 pub list-table : (numbers : List ℕ) (h : Header) → h ≡ listHeader numbers → headerFields ≤ length numbers → Table (hasWrongCount numbers) h (listSite numbers) (listLine h numbers) (listRefusal numbers)

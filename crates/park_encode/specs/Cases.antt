@@ -1,6 +1,6 @@
--- Park Alder's list (01, "Park Alder, and its neighbours"), a list with its file byte by byte, lists of a wrong count, and lists that differ
--- from Alder's in one number, which is too large for its field and within its limits once it is narrowed. `list-cases` of
--- proofs/CaseTest.antt proves them.
+-- Park Alder's list (01, "Park Alder, and its neighbours"), a list with its file byte by byte, lists of a wrong count, lists that differ
+-- from Alder's in one number, which is too large for its field and within its limits once it is narrowed, and Alder's with other ends
+-- of a line. `list-cases` of proofs/CaseTest.antt proves them.
 -- Assumes nothing.
 use Prim.Native.Nat.{ℕ}
 use mathlib.Core.Path.{_≡_}
@@ -65,3 +65,11 @@ pub record ListCases : Type 0 where
   pub to : listRefusal (alderWith 16 257) ≡ some (14, 1)
   pub mark : listRefusal (alderWith 17 263) ≡ some (15, 1)
   pub eerp : listRefusal (alderWith 34 65537) ≡ some (16, 3)
+  -- ends: line 2 from site 3 to site 2; line 1 from the network to the network; line 2 from site 2 to itself; line 2 from site 2 to site 1, with a
+  -- mark of 5; line 2 from site 2 to itself and line 3 to site 3; line 2 back to the network
+  pub above : listRefusal (alderWith 23 3) ≡ some (14, 2)
+  pub network : listRefusal (alderWith 16 0) ≡ some (23, 1)
+  pub itself : listRefusal (alderWith 23 2) ≡ some (24, 2)
+  pub backwards : listRefusal (set (set (alderWith 23 2) 24 1) 25 5) ≡ some (24, 2)
+  pub twoLines : listRefusal (set (alderWith 23 2) 32 3) ≡ some (24, 2)
+  pub backToNetwork : IsAcceptedList (alderWith 24 0)

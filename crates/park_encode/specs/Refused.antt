@@ -1,4 +1,4 @@
--- What `encode` refuses (02, R-1), and what it leaves then. `list-refusals` of proofs/Refused.antt proves the first of these laws, and so
+-- What `encode` refuses (02, R-1 and R-2), and what it leaves then. `list-refusals` of proofs/Refused.antt proves the first of these laws, and so
 -- on; `too-few` and `wrong-count` are in proofs/Counts.antt.
 -- Assumes nothing.
 use Prim.Native.Nat.{ℕ, _≤_, _<_}
@@ -8,13 +8,23 @@ use mathlib.Core.Bool.{false}
 use mathlib.Core.List.{List}
 use mathlib.Core.Option.{none, some}
 use lib.ListN.{length}
-use Rattle.park_format.specs.Rules.{firstBroken, headerRules}
-use Rattle.park_encode.specs.Encode.{bufferAfter, encodeOutcome, IsAcceptedList, listRefusal, madeSize}
-use Rattle.park_encode.specs.Numbers.{headerFields, listCount, listHeader}
+use Rattle.park_format.specs.Ends.{formerLineRules, formerly, MeantBy}
+use Rattle.park_format.specs.Rules.{firstBroken, headerRules, OfTable, rulesWith}
+use Rattle.park_encode.specs.Encode.{bufferAfter, encodeOutcome, hasTooFew, hasWrongCount, IsAcceptedList, listRefusal, madeSize}
+use Rattle.park_encode.specs.Numbers.{headerFields, listCount, listHeader, listPark}
 
--- a list is refused by 1 or by one of 4 to 19: 2 and 3 cannot occur
+-- a list is refused by 1, or by one of the table's rules from 4 on: 2 and 3 cannot occur
 abbrev pub ListRefusals : Type 0
-ListRefusals = (numbers : List ℕ) (r : ℕ × ℕ) → listRefusal numbers ≡ some r → (r .0 ≡ 1) ⊎ ((4 ≤ r .0) × (r .0 ≤ 19))
+ListRefusals = (numbers : List ℕ) (r : ℕ × ℕ) → listRefusal numbers ≡ some r → (r .0 ≡ 1) ⊎ ((4 ≤ r .0) × OfTable (r .0))
+
+-- what 14, 23 and 24 mean for a list, and that they refuse what 01's one rule for the ends refused: see park_format/specs/Ends.antt
+abbrev pub ListEndsMeant : Type 0
+ListEndsMeant = (numbers : List ℕ) → MeantBy (listRefusal numbers) (listPark numbers)
+
+abbrev pub SameListsRefused : Type 0
+SameListsRefused =
+    (numbers : List ℕ)
+    → firstBroken (rulesWith formerLineRules (hasTooFew numbers) (hasWrongCount numbers) (listPark numbers)) ≡ formerly (listRefusal numbers)
 
 -- 1 is said exactly when there are fewer than five numbers
 abbrev pub TooFew : Type 0

@@ -4,7 +4,7 @@ use Prim.Native.Nat.{ℕ, zero, suc, _+_, _-_, _≤_, _<_}
 use native.Mathlib.Omega.{arith}
 use native.Mathlib.Nat.{le-of-suc-le-suc, not-suc-le-zero, add-zero, add-suc, suc-add, add-sub-of-le}
 use mathlib.Core.Path.{_≡_, refl, ap}
-use mathlib.Core.Bool.{Bool, true, false, not, _&&_, _||_}
+use mathlib.Core.Bool.{Bool, true, false, not, _&&_}
 use mathlib.Core.List.{List, [], _∷_, _++_}
 use mathlib.Core.Option.{none}
 use lib.Dec.{eqb, ltb, leb}
@@ -14,7 +14,7 @@ use Rattle.park_format.specs.Inner.Sized.{Sized}
 use Rattle.park_format.specs.Limits.{months, mostDiscount, mostEerp, mostFlag, mostInstalled, mostLines, mostMark, mostPower, mostPrice, mostReading, mostSites}
 use borrow.Author.Tests.{eqb-true, eqb-false, ltb-false, leb-false, not-false, ne-eqb, eq-eqb}
 use Rattle.park_format.specs.Park.{inputs, lineOf, Park, parkOf, siteOf}
-use Rattle.park_format.specs.Rules.{IsAccepted, Row, firstBroken, headerRules, siteRules, lineRules, inputRules, each, fileRules, hasDevices, hasWrongLength, isShort, rulesOf, refusal, startRules, wrongDevice, withoutMeter, measuresReactive, measuresGenerated, measuresNight, isEmpty, parkMark, sizeOf, mostHours, endAbove, bothNetwork, backwards, readingAbove, wrongDevices, wrongEnds, wrongMeters, wrongReadings}
+use Rattle.park_format.specs.Rules.{IsAccepted, Row, firstBroken, headerRules, siteRules, lineRules, inputRules, each, fileRules, hasDevices, hasWrongLength, isShort, rulesOf, rulesWith, refusal, startRules, wrongDevice, withoutMeter, measuresReactive, measuresGenerated, measuresNight, isEmpty, parkMark, sizeOf, mostHours, endAbove, bothNetwork, backwards, readingAbove, wrongDevices, wrongMeters, wrongReadings}
 use Rattle.park_format.specs.Rules.Row.{rule}
 use Rattle.park_format.specs.Accepted.{Every, Guarantee, Kept, KeptHeader, KeptLine, KeptSite}
 use Rattle.park_format.specs.declared.header.Header.{Header}
@@ -99,13 +99,13 @@ unfolding lineRules
 kept-line s k l e =
     let w = whole (lineRules s k l) e in
     let m = l .meters in
-    let rule14 : wrongEnds s l ≡ false = search in
+    let rule14 : endAbove s l ≡ false = search in
+    let rule23 : bothNetwork l ≡ false = search in
+    let rule24 : backwards l ≡ false = search in
     let rule15 : wrongMeters m ≡ false = search in
     let rule17 : readingAbove l ≡ false = search in
     let rule18 : wrongReadings l ≡ false = search in
-    let ends = or-false (endAbove s l) (bothNetwork l || backwards l) rule14 in
-    let above = or-false (ltb s (l .from)) (ltb s (l .to)) (ends .0) in
-    let drawn = or-false (bothNetwork l) (backwards l) (ends .1) in
+    let above = or-false (ltb s (l .from)) (ltb s (l .to)) rule14 in
     let marks = or-false (ltb mostMark m) (measuresNight m && not (measuresGenerated m)) rule15 in
     let r1 = or-false (ltb mostReading (l .active)) _ rule17 in
     let r2 = or-false (ltb mostReading (l .reactive)) _ (r1 .1) in
@@ -116,11 +116,11 @@ kept-line s k l e =
     record {
       from = ltb-false s (l .from) (above .0);
       to = ltb-false s (l .to) (above .1);
-      notBothNetwork = λ a b. eqb-false (l .to) 0 (and-false (eqb (l .from) 0) (eqb (l .to) 0) (drawn .0) (eq-eqb (l .from) 0 a)) b;
+      notBothNetwork = λ a b. eqb-false (l .to) 0 (and-false (eqb (l .from) 0) (eqb (l .to) 0) rule23 (eq-eqb (l .from) 0 a)) b;
       forward =
           λ a b. leb-false (l .to) (l .from)
           (and-false (not (eqb (l .to) 0)) (leb (l .to) (l .from))
-          (and-false (not (eqb (l .from) 0)) (not (eqb (l .to) 0) && leb (l .to) (l .from)) (drawn .1) (ap not (ne-eqb (l .from) 0 a)))
+          (and-false (not (eqb (l .from) 0)) (not (eqb (l .to) 0) && leb (l .to) (l .from)) rule24 (ap not (ne-eqb (l .from) 0 a)))
           (ap not (ne-eqb (l .to) 0 b)));
       meters = ltb-false mostMark m (marks .0);
       nightGenerated = λ n. not-false (measuresGenerated m) (and-false (measuresNight m) (not (measuresGenerated m)) (marks .1) n);
@@ -162,7 +162,7 @@ pub record Parts (short wrongLength : Bool) (p : Park) : Type 0 where
   pub inputs : firstBroken (each (inputRules (p .lines)) 1 (p .sites)) ≡ none
 
 pub parts : (short wrongLength : Bool) (p : Park) → firstBroken (rulesOf short wrongLength p) ≡ none → Parts short wrongLength p
-unfolding rulesOf
+unfolding rulesWith
 parts short wrongLength p e =
     let start = startRules short in
     let header = headerRules wrongLength (p .header) in

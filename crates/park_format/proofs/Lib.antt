@@ -14,3 +14,5 @@ pub mod Made
 pub mod Fits
 pub mod Call
 pub mod Said
+pub mod Ends
+pub mod Former

@@ -5,18 +5,23 @@ use native.Mathlib.Nat.{add-zero, suc-add, add-suc}
 use native.Mathlib.Decide.{le-ind}
 use native.Mathlib.Numerals.{add-one}
 use native.Mathlib.Omega.{arith}
+use mathlib.Core.Logic.{⊎-elim, _⊎_, inl, inr}
 use mathlib.Core.Path.{_≡_, refl, sym, ap, _∙_}
 use mathlib.Core.Bool.{Bool, true, false}
 use mathlib.Core.List.{List, [], _∷_, _++_, append-assoc, append-nil}
 use mathlib.Core.Option.{Option, none, some}
 use lib.Dec.{eqb, ltb}
-use lib.ListN.{length}
+use lib.ListN.{getD, length}
 use borrow.Author.Tests.{eq-eqb, eqb-false, ltb-false, ne-eqb}
 use Rattle.park_format.specs.Park.{listOf}
 use Rattle.park_format.specs.Rules.{Row, firstBroken, each, refusalAt, zeroOrAbove}
 use Rattle.park_format.specs.Rules.Row.{rule}
 use Rattle.park_format.proofs.Tests.{or-false}
 use Rattle.park_format.proofs.Lists.{length-listOf}
+
+-- two refusals that are alike
+pub same-refusal : {q r : ℕ × ℕ} → some q ≡ some r → q ≡ r
+same-refusal e = cc
 
 -- a number that is not 0 refuses, and 0 does not
 pub refuses-at : (number place : ℕ) → (number ≡ 0 → ⊥) → refusalAt number place ≡ some (number, place)
@@ -55,6 +60,13 @@ first-stays [] ys e = cc
 first-stays (rule n p true ∷ xs) ys e = e
 first-stays (rule n p false ∷ xs) ys e = first-stays xs ys e
 
+-- it is in one of them
+pub first-part : (xs ys : List Row) {r : ℕ × ℕ} → firstBroken (xs ++ ys) ≡ some r → (firstBroken xs ≡ some r) ⊎ (firstBroken ys ≡ some r)
+unfolding firstBroken
+first-part [] ys e = inr e
+first-part (rule n p true ∷ xs) ys e = inl e
+first-part (rule n p false ∷ xs) ys e = first-part xs ys e
+
 -- where neither list has a broken row
 pub first-none : (xs ys : List Row) → firstBroken (xs ++ ys) ≡ none → (firstBroken xs ≡ none) × (firstBroken ys ≡ none)
 unfolding firstBroken
@@ -67,6 +79,15 @@ module _ {ℓ} {A : Type ℓ} (g : ℕ → A → List Row) where
   unfolding each
   each-append k [] y = rw (add-zero, append-nil)
   each-append k (x ∷ xs) y = rw (each-append (suc k) xs y, append-assoc, suc-add, add-suc)
+
+  -- a refusal by the rules of each record is that of one of them, which stands at i, counted from 0
+  pub each-at : (d : A) (k : ℕ) (xs : List A) {r : ℕ × ℕ} {Q : Type 0} → firstBroken (each g k xs) ≡ some r → ((i : ℕ) → i < length xs → firstBroken (g (k + i) (getD xs i d)) ≡ some r → Q) → Q
+  unfolding each firstBroken
+  each-at d k [] e at = let z : _≡_ {A = ℕ} 0 1 = cc in absurd (omega arith)
+  each-at d k (x ∷ xs) {r} e at =
+      ⊎-elim (λ here. at 0 (omega arith) (rw add-zero here))
+      (λ later. each-at d (suc k) xs later (λ i inside here. at (suc i) (omega arith) (rw (add-suc k i, sym (suc-add k i)) here)))
+      (first-part (g k x) (each g (suc k) xs) e)
 
   -- the rules of the first n records of a file, read by f
   module _ (f : ℕ → A) where

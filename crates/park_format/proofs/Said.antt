@@ -1,23 +1,35 @@
 -- What is said of a refusal's number: by the rows of a table, and by the rule of a call, which comes last.
 -- Assumes nothing.
-use Prim.Native.Nat.{ℕ, suc, _≤_, _<_}
+use Prim.Native.Nat.{ℕ, suc, _≤_}
 use native.Mathlib.Omega.{arith}
 use mathlib.Core.Logic.{⊎-elim, _↔_, _⊎_, inl, inr}
 use mathlib.Core.Path.{_≡_, refl, sym, ap, subst, _∙_}
-use mathlib.Core.Bool.{Bool, true, false, cond, true≢false}
+use mathlib.Core.Bool.{Bool, true, false, cond, _&&_, _||_, true≢false}
 use mathlib.Core.List.{List, [], _∷_, _++_}
 use mathlib.Core.Option.{Option, none, some}
-use lib.Dec.{lit≤}
+use borrow.Author.Tests.{leb-true}
+use lib.Dec.{leb, lit≤}
 use lib.ListN.{take}
 use Rattle.park_format.specs.Accepted.{Every}
 use Rattle.park_format.specs.Call.{answer, refusalWith, unlessRefused}
 use Rattle.park_format.specs.Park.{Park}
-use Rattle.park_format.specs.Rules.{Row, each, firstBroken, headerRules, inputRules, lineRules, rulesOf, siteRules, startRules}
+use Rattle.park_format.specs.Rules.{Row, each, firstBroken, headerRules, inputRules, lineRules, OfTable, rulesOf, rulesWith, siteRules, startRules}
 use Rattle.park_format.specs.Rules.Row.{rule}
 use Rattle.park_format.specs.declared.header.Header.{Header}
 use Rattle.park_format.proofs.Call.{call-allows, call-refuses, rules-first}
 use Rattle.park_format.proofs.Lists.{every-join}
 use Rattle.park_format.proofs.Rules.{first-append, first-none, first-stays}
+use Rattle.park_format.proofs.Tests.{and-both}
+
+-- one of the table's numbers, by looking at it
+listed : (n : ℕ) → ((leb 1 n && leb n 19) || (leb 23 n && leb n 24)) ≡ true → OfTable n
+listed n e = by (leb 1 n && leb n 19) refl
+  where
+    by : (b : Bool) → (leb 1 n && leb n 19) ≡ b → OfTable n
+    by true q = let h = and-both (leb 1 n) (leb n 19) q in inl (leb-true 1 n (h .0), leb-true n 19 (h .1))
+    by false q =
+        let h = and-both (leb 23 n) (leb n 24) (ap (λ (b : Bool). b || (leb 23 n && leb n 24)) (sym q) ∙ e) in
+        inr (leb-true 23 n (h .0), leb-true n 24 (h .1))
 
 module _ (P : ℕ → Type 0) where
   -- P holds of the row's number, if the row is broken
@@ -32,34 +44,41 @@ module _ (P : ℕ → Type 0) where
       subst (λ (q : ℕ × ℕ). P (q .0)) same (says .0 refl)
   first-says (rule n place false ∷ rows) says e = first-says rows (says .1) e
 
-  each-says : {A : Type 0} (g : ℕ → A → List Row) → ((k : ℕ) (x : A) → Every Says (g k x)) → (k : ℕ) (xs : List A) → Every Says (each g k xs)
+  pub each-says : {A : Type 0} (g : ℕ → A → List Row) → ((k : ℕ) (x : A) → Every Says (g k x)) → (k : ℕ) (xs : List A) → Every Says (each g k xs)
   unfolding each
   each-says g says k [] = tt
   each-says g says k (x ∷ xs) = every-join Says (g k x) (each g (suc k) xs) (says k x) (each-says g says (suc k) xs)
 
-  -- a whole table: what P says of 1, of the header's rows, and of 10 to 19
-  pub table-says : (short wrongLength : Bool) (p : Park) → (short ≡ true → P 1) → Every Says (headerRules wrongLength (p .header)) → ((n : ℕ) → 10 ≤ n → n ≤ 19 → P n) → Every Says (rulesOf short wrongLength p)
-  unfolding rulesOf siteRules lineRules inputRules
+  -- a whole table: what P says of 1, of the header's rows, and of the rows from 10 on
+  pub table-says : (short wrongLength : Bool) (p : Park) → (short ≡ true → P 1) → Every Says (headerRules wrongLength (p .header)) → ((n : ℕ) → 10 ≤ n → OfTable n → P n) → Every Says (rulesOf short wrongLength p)
+  unfolding rulesWith siteRules lineRules inputRules
   table-says short wrongLength p one header rest =
       let sites = each siteRules 1 (p .sites) in
       let lines = each (lineRules (p .header .sites)) 1 (p .lines) in
       let inputs = each (inputRules (p .lines)) 1 (p .sites) in
       every-join Says (startRules short ++ headerRules wrongLength (p .header)) (sites ++ (lines ++ inputs)) (one, header)
       (every-join Says sites (lines ++ inputs)
-      (each-says siteRules (λ k x. (λ e. rest _ (lit≤ tt) (lit≤ tt), (λ e. rest _ (lit≤ tt) (lit≤ tt), (λ e. rest _ (lit≤ tt) (lit≤ tt), (λ e. rest _ (lit≤ tt) (lit≤ tt), tt))))) 1 (p .sites))
+      (each-says siteRules (λ k x. (λ e. rest _ (lit≤ tt) (listed _ refl), (λ e. rest _ (lit≤ tt) (listed _ refl), (λ e. rest _ (lit≤ tt) (listed _ refl), (λ e. rest _ (lit≤ tt) (listed _ refl), tt))))) 1 (p .sites))
       (every-join Says lines inputs
-      (each-says (lineRules (p .header .sites)) (λ k l. (λ e. rest _ (lit≤ tt) (lit≤ tt), (λ e. rest _ (lit≤ tt) (lit≤ tt), (λ e. rest _ (lit≤ tt) (lit≤ tt), (λ e. rest _ (lit≤ tt) (lit≤ tt), (λ e. rest _ (lit≤ tt) (lit≤ tt), tt)))))) 1 (p .lines))
-      (each-says (inputRules (p .lines)) (λ k x. (λ e. rest _ (lit≤ tt) (lit≤ tt), tt)) 1 (p .sites))))
+      (each-says (lineRules (p .header .sites)) (λ k l. (λ e. rest _ (lit≤ tt) (listed _ refl), (λ e. rest _ (lit≤ tt) (listed _ refl), (λ e. rest _ (lit≤ tt) (listed _ refl), (λ e. rest _ (lit≤ tt) (listed _ refl), (λ e. rest _ (lit≤ tt) (listed _ refl), (λ e. rest _ (lit≤ tt) (listed _ refl), (λ e. rest _ (lit≤ tt) (listed _ refl), tt)))))))) 1 (p .lines))
+      (each-says (inputRules (p .lines)) (λ k x. (λ e. rest _ (lit≤ tt) (listed _ refl), tt)) 1 (p .sites))))
 
--- the table's numbers are 1 to 19
-pub first-own : (short wrongLength : Bool) (p : Park) {r : ℕ × ℕ} → firstBroken (rulesOf short wrongLength p) ≡ some r → (1 ≤ r .0) × (r .0 ≤ 19)
+-- the table's refusals have the table's numbers
+pub first-own : (short wrongLength : Bool) (p : Park) {r : ℕ × ℕ} → firstBroken (rulesOf short wrongLength p) ≡ some r → OfTable (r .0)
 unfolding headerRules
 first-own short wrongLength p e =
-    first-says (λ (n : ℕ). (1 ≤ n) × (n ≤ 19)) (rulesOf short wrongLength p)
-    (table-says (λ (n : ℕ). (1 ≤ n) × (n ≤ 19)) short wrongLength p (λ e. (lit≤ tt, lit≤ tt))
-    (λ e. (lit≤ tt, lit≤ tt), (λ e. (lit≤ tt, lit≤ tt), (λ e. (lit≤ tt, lit≤ tt), (λ e. (lit≤ tt, lit≤ tt), (λ e. (lit≤ tt, lit≤ tt), (λ e. (lit≤ tt, lit≤ tt), (λ e. (lit≤ tt, lit≤ tt), (λ e. (lit≤ tt, lit≤ tt), tt))))))))
-    (λ n low high. (omega arith, high)))
+    first-says OfTable (rulesOf short wrongLength p)
+    (table-says OfTable short wrongLength p (λ e. listed _ refl)
+    (λ e. listed _ refl, (λ e. listed _ refl, (λ e. listed _ refl, (λ e. listed _ refl, (λ e. listed _ refl, (λ e. listed _ refl, (λ e. listed _ refl, (λ e. listed _ refl, tt))))))))
+    (λ n low own. own))
     e
+
+-- none of them is 0, nor that of a call
+pub own-positive : (n : ℕ) → OfTable n → 1 ≤ n
+own-positive n = ⊎-elim (λ h. h .0) (λ h. omega arith)
+
+pub no-call : (n : ℕ) → 20 ≤ n → n ≤ 22 → OfTable n → ⊥
+no-call n low high = ⊎-elim (λ h. omega arith) (λ h. omega arith)
 
 -- 9 is the last rule of the header: a broken one before it is the first, and has a lower number; else it is 9 that decides
 module _ (h : Header) (wrongLength : Bool) where
@@ -107,11 +126,11 @@ module _ (rules : List Row) (n : ℕ) {A : Type 0} (value : A) (r : ℕ × ℕ) 
           let same : q ≡ r = cc in
           inl (own ∙ ap some same)
 
--- where every row's number is below the call's, the call's is said exactly when the rows are kept and its own rule is broken
-pub said-exactly : (rules : List Row) (n place : ℕ) → ((r : ℕ × ℕ) → firstBroken rules ≡ some r → r .0 < n) → {A : Type 0} (value : A) (b : Bool) → (answer (refusalWith rules (rule n 0 b)) value ≡ inl (n, place)) ↔ ((place ≡ 0) × ((firstBroken rules ≡ none) × (b ≡ true)))
-said-exactly rules n place below value b = (
+-- where no row has the call's number, it is said exactly when the rows are kept and the call's own rule is broken
+pub said-exactly : (rules : List Row) (n place : ℕ) → ((r : ℕ × ℕ) → firstBroken rules ≡ some r → r .0 ≡ n → ⊥) → {A : Type 0} (value : A) (b : Bool) → (answer (refusalWith rules (rule n 0 b)) value ≡ inl (n, place)) ↔ ((place ≡ 0) × ((firstBroken rules ≡ none) × (b ≡ true)))
+said-exactly rules n place other value b = (
   λ e.
-      ⊎-elim (λ own. let few = below (n, place) own in absurd (omega arith))
+      ⊎-elim (λ own. absurd (other (n, place) own refl))
       (λ last. (ap (λ (q : ℕ × ℕ). q .1) (last .1 .1), (last .0, last .1 .0)))
       (refused-by rules n value (n, place) b e),
   λ h. ap (λ refused. answer refused value) (call-refuses rules n 0 b (h .1 .0) (h .1 .1)) ∙ ap (λ (m : ℕ). inl (n, m)) (sym (h .0)),

@@ -1,11 +1,20 @@
--- Laws of tests joined by `||` and `&&`: what the whole comes to, by its first test, and what a whole that is false tells.
+-- Laws of tests joined by `||` and `&&`: what the whole comes to by its tests, and what it tells of them.
 -- Assumes nothing.
+use mathlib.Core.Logic.{_⊎_, inl, inr}
 use mathlib.Core.Path.{_≡_, refl, sym}
 use mathlib.Core.Bool.{Bool, true, false, _&&_, _||_, true≢false}
 
 pub or-yes : (a b : Bool) → a ≡ true → true ≡ (a || b)
 or-yes true b e = refl
 or-yes false b e = absurd (true≢false (sym e))
+
+pub or-last : (a b : Bool) → b ≡ true → (a || b) ≡ true
+or-last true b e = refl
+or-last false b e = e
+
+pub or-either : (a b : Bool) → (a || b) ≡ true → (a ≡ true) ⊎ (b ≡ true)
+or-either true b e = inl refl
+or-either false b e = inr e
 
 pub or-next : (a b : Bool) {r : Bool} → a ≡ false → r ≡ b → r ≡ (a || b)
 or-next true b e f = absurd (true≢false e)

@@ -12,7 +12,7 @@ use lib.Dec.{eqb, ltb}
 use lib.ListN.{length}
 use borrow.Author.Tests.{lt-ltb, le-ltb, ltb-true, ltb-false, not-true, not-false}
 use Rattle.park_format.specs.Park.{headerOf, inputs, lineOf, listOf, Park, parkOf, select, siteOf}
-use Rattle.park_format.specs.Rules.{Row, firstBroken, headerRules, siteRules, lineRules, inputRules, each, fileRules, hasWrongLength, rulesOf, refusal, isEmpty, sizeOf}
+use Rattle.park_format.specs.Rules.{Row, firstBroken, headerRules, siteRules, lineRules, inputRules, each, fileRules, hasWrongLength, rulesOf, rulesWith, refusal, isEmpty, sizeOf}
 use Rattle.park_format.specs.Inner.Set.{has, Lowest, IsFed}
 use Rattle.park_format.specs.Inner.Sized.{Sized}
 use Rattle.park_format.specs.Limits.{mostSites}
@@ -47,7 +47,7 @@ module _ (wrongLength : Bool) (h : Header) (site : ℕ → Site) (line : ℕ →
   Table refused = refused ≡ firstBroken (rulesOf false wrongLength park)
 
   parts : firstBroken (rulesOf false wrongLength park) ≡ firstBroken (header-part ++ (sites-part ++ (lines-part ++ inputs-part)))
-  unfolding rulesOf firstBroken
+  unfolding rulesWith firstBroken
   parts = refl
 
   pub header-refused : {refused : Option (ℕ × ℕ)} {r : ℕ × ℕ} → Table refused → some r ≡ firstBroken header-part → some r ≡ refused
@@ -77,7 +77,7 @@ module _ (wrongLength : Bool) (h : Header) (site : ℕ → Site) (line : ℕ →
 
 -- a file
 pub too-short : (file : List ℕ) → length file < headerSize → some (1, 0) ≡ refusal file
-unfolding refusal fileRules rulesOf firstBroken
+unfolding refusal fileRules rulesWith firstBroken
 too-short file h = rw (lt-ltb (length file) headerSize h)
 
 module _ (file : List ℕ) (h : Header) (read : h ≡ headerOf file) where

@@ -1,4 +1,4 @@
--- What an accepted file guarantees: each rule of 01's table, turned round, of the header, of each site, of each line, and of the park.
+-- What an accepted file guarantees: each rule of the table, turned round, of the header, of each site, of each line, and of the park.
 -- That no file is shorter than a header (1) follows from its length (9).
 -- Assumes nothing.
 use Prim.Native.Nat.{ℕ, _≤_, _<_}
@@ -33,7 +33,7 @@ pub record KeptSite (x : Site) : Type 0 where
   pub withoutDevices : hasDevices x ≡ false → (x .compensation ≡ 0) × (x .motors ≡ 0)
   pub discount : x .discount ≤ mostDiscount
 
--- 14 to 18, in a park of s sites
+-- 14, 23, 24 and 15 to 18, in a park of s sites
 pub record KeptLine (s : ℕ) (l : Line) : Type 0 where
   pub from : l .from ≤ s
   pub to : l .to ≤ s

@@ -4,6 +4,7 @@ pub mod Park
 pub mod Rules
 pub mod Call
 pub mod Cut
+pub mod Ends
 pub mod Accepted
 pub mod Made
 pub mod Inner

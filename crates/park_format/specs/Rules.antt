@@ -1,7 +1,8 @@
--- The rules of the park file (01, "Where each thing is checked"): the table row by row, and the refusal that it puts first.
+-- The rules of the park file (01, "Where each thing is checked"; 23 and 24: 02, R-2): the table row by row, and the refusal that it puts first.
 -- A file is accepted when no row is broken. No other condition refuses.
 -- Assumes nothing.
-use Prim.Native.Nat.{ℕ, suc, _-_, _/_, _%_}
+use Prim.Native.Nat.{ℕ, suc, _-_, _/_, _%_, _≤_}
+use mathlib.Core.Logic.{_⊎_}
 use mathlib.Core.Path.{_≡_}
 use mathlib.Core.Bool.{Bool, true, false, cond, not, _&&_, _||_}
 use mathlib.Core.List.{List, [], _∷_, _++_}
@@ -18,9 +19,13 @@ use Rattle.park_format.specs.declared.rule.Verdict.{Verdict}
 use Rattle.park_format.specs.declared.rule.Verdict.the-variants.{Accepted, Refused}
 
 -- a row of the table: the rule's number, the place, and whether the rule is broken there. The place is the site or the line, counted
--- from 1, for 10 to 19, else 0. The rows 20 to 22 belong to the calls
+-- from 1, for 10 to 19, 23 and 24, else 0
 pub data Row : Type 0 where
   rule : ℕ → ℕ → Bool → Row
+
+-- the numbers of the table's rows. 20 to 22 belong to the calls
+abbrev pub OfTable : ℕ → Type 0
+OfTable n = ((1 ≤ n) × (n ≤ 19)) ⊎ ((23 ≤ n) × (n ≤ 24))
 
 -- number and place of the first broken row, if there is one
 unfoldable pub firstBroken : List Row → Option (ℕ × ℕ)
@@ -109,17 +114,13 @@ siteRules k x =
 abbrev pub endAbove : ℕ → Line → Bool
 endAbove s l = ltb s (l .from) || ltb s (l .to)
 
--- 14: both ends 0
+-- 23: both ends are the network
 abbrev pub bothNetwork : Line → Bool
 bothNetwork l = eqb (l .from) 0 && eqb (l .to) 0
 
--- 14: two sites with from not below to
+-- 24: neither end is the network, and from is not below to
 abbrev pub backwards : Line → Bool
 backwards l = not (eqb (l .from) 0) && (not (eqb (l .to) 0) && leb (l .to) (l .from))
-
--- 14: any of these
-abbrev pub wrongEnds : ℕ → Line → Bool
-wrongEnds s l = endAbove s l || (bothNetwork l || backwards l)
 
 -- 15: mark above 7, or holding 4 without 2
 abbrev pub wrongMeters : ℕ → Bool
@@ -141,10 +142,12 @@ wrongReadings l =
     || (withoutMeter (measuresNight (l .meters)) (l .night)
     || ltb (l .generated) (l .night)))
 
--- 14 to 18: one line of a park of s sites
+-- 14, 23, 24 and 15 to 18: one line of a park of s sites
 unfoldable pub lineRules : ℕ → ℕ → Line → List Row
 lineRules s k l =
-    rule 14 k (wrongEnds s l)
+    rule 14 k (endAbove s l)
+    ∷ rule 23 k (bothNetwork l)
+    ∷ rule 24 k (backwards l)
     ∷ rule 15 k (wrongMeters (l .meters))
     ∷ rule 16 k (zeroOrAbove mostEerp (l .eerp))
     ∷ rule 17 k (readingAbove l)
@@ -166,13 +169,17 @@ each rules k [] = []
 each rules k (x ∷ xs) = rules k x ++ each rules (suc k) xs
 
 -- the whole table of a park: header and length, site by site, line by line, the park. What it is read from says whether it is too short
--- for a header, and whether its length is wrong
-unfoldable pub rulesOf : Bool → Bool → Park → List Row
-rulesOf short wrongLength p =
+-- for a header, and whether its length is wrong. The rows of a line are an argument, so that Ends.antt can put the former ones there
+unfoldable pub rulesWith : (ℕ → ℕ → Line → List Row) → Bool → Bool → Park → List Row
+rulesWith ofLine short wrongLength p =
     (startRules short ++ headerRules wrongLength (p .header))
     ++ (each siteRules 1 (p .sites)
-    ++ (each (lineRules (p .header .sites)) 1 (p .lines)
+    ++ (each (ofLine (p .header .sites)) 1 (p .lines)
     ++ each (inputRules (p .lines)) 1 (p .sites)))
+
+-- with the present rows of a line
+abbrev pub rulesOf : Bool → Bool → Park → List Row
+rulesOf short wrongLength p = rulesWith lineRules short wrongLength p
 
 -- 1 and 9, of a file
 abbrev pub isShort : List ℕ → Bool

@@ -10,7 +10,7 @@ ghost use Rattle.park_format.specs.Format.{lineSize};
 ghost use Rattle.park_format.specs.Inner.Stored.{Stored};
 ghost use Rattle.park_format.specs.Made.{lineBytes};
 ghost use Rattle.park_format.specs.Park.{lineAt};
-ghost use Rattle.park_format.specs.Rules.{refusalAt, firstBroken, lineRules, measuresReactive, measuresGenerated, measuresNight, backwards, bothNetwork, endAbove, wrongEnds, wrongMeters, readingAbove, wrongReadings};
+ghost use Rattle.park_format.specs.Rules.{refusalAt, firstBroken, lineRules, measuresReactive, measuresGenerated, measuresNight, backwards, bothNetwork, endAbove, wrongMeters, readingAbove, wrongReadings};
 
 pub struct Line {
     // The site that the line comes from, and the one it goes to; 0 is the network.
@@ -113,25 +113,18 @@ impl Line {
         (sites < self.from) | (sites < self.to)
     }
 
-    // Rule 14: both ends are the network.
+    // Rule 23: both ends are the network.
     fn both_network(self) -> bool
         ensures { λ r. ⌜ r ≡ bothNetwork self ⌝ }
     {
         (self.from == 0) & (self.to == 0)
     }
 
-    // Rule 14: both ends are sites, and `from` is not below `to`.
+    // Rule 24: neither end is the network, and `from` is not below `to`.
     fn backwards(self) -> bool
         ensures { λ r. ⌜ r ≡ backwards self ⌝ }
     {
         (self.from != 0) & ((self.to != 0) & (self.to <= self.from))
-    }
-
-    // Rule 14: any of these.
-    fn wrong_ends(self, sites: u32) -> bool
-        ensures { λ r. ⌜ r ≡ wrongEnds sites self ⌝ }
-    {
-        self.end_above(sites) | (self.both_network() | self.backwards())
     }
 
     // Rule 15: the mark is above 7, or holds 4 without 2.
@@ -172,8 +165,14 @@ impl Line {
     pub fn broken(self, sites: u32) -> u32
         ensures { λ r. ⌜ ((place : ℕ) → refusalAt r place ≡ firstBroken (lineRules sites place self)) ⌝ }
     {
-        if self.wrong_ends(sites) {
+        if self.end_above(sites) {
             return 14;
+        }
+        if self.both_network() {
+            return 23;
+        }
+        if self.backwards() {
+            return 24;
         }
         if self.wrong_meters() {
             return 15;

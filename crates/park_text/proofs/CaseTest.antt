@@ -12,7 +12,7 @@ use Rattle.park_format.proofs.Tests.{and-both}
 use Rattle.park_format.specs.Park.{headerOf, lineAt, lineOf, listOf, parkOf, select, siteAt, siteOf}
 use Rattle.park_format.specs.Format.{fieldsAt, numberAt}
 use Rattle.park_format.specs.Made.{bytesFor, bytesOf, fileOf, joined}
-use Rattle.park_format.specs.Rules.{each, fileRules, firstBroken, headerRules, inputRules, lineRules, measuresReactive, mostHours, refusal, rulesOf, siteRules}
+use Rattle.park_format.specs.Rules.{each, fileRules, firstBroken, headerRules, inputRules, lineRules, measuresReactive, mostHours, refusal, rulesWith, siteRules}
 use Rattle.park_format.specs.Accepted.{Every}
 use Rattle.park_format.specs.declared.line.Line.{Line}
 use Rattle.park_charge.specs.Rounding.{rounded}
@@ -34,7 +34,7 @@ use Rattle.park_bill.proofs.Balances.{over-cong, over-none, over-zero}
 
 -- the test
 all-hold : allOf holds cases ≡ true
-unfolding holds bytesFor bytesOf fileOf joined fieldsAt numberAt headerOf lineAt lineOf listOf parkOf select siteAt siteOf each fileRules firstBroken headerRules inputRules lineRules mostHours refusal rulesOf siteRules rounded inflow estimatedOut outflow tangent aboveZero cut computedGeneration computedCharge discount lossCharge reason surcharge surchargeFactor allOf sumBy consumptionOf generationCharge generationOf tangentOf weightedSum billsOf callRefusal refusalWith overSites answerTo decimal digitsWithin billText namesText sitesText siteText fieldsText refusalText
+unfolding holds bytesFor bytesOf fileOf joined fieldsAt numberAt headerOf lineAt lineOf listOf parkOf select siteAt siteOf each fileRules firstBroken headerRules inputRules lineRules mostHours refusal rulesWith siteRules rounded inflow estimatedOut outflow tangent aboveZero cut computedGeneration computedCharge discount lossCharge reason surcharge surchargeFactor allOf sumBy consumptionOf generationCharge generationOf tangentOf weightedSum billsOf callRefusal refusalWith overSites answerTo decimal digitsWithin billText namesText sitesText siteText fieldsText refusalText
 all-hold = refl
 
 -- what each part of the test means

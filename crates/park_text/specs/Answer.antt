@@ -32,7 +32,7 @@ AcceptedAnswer =
     (file : List ℕ) → IsAccepted file
     → answerTo file ≡ namesText ++ sitesText (parkOf file .header .sites) (billsOf (parkOf file) (parkOf file .header .sites))
 
--- every other file prints its own refusal, of rules 1 to 19
+-- every other file prints its own refusal
 abbrev pub RefusedAnswer : Type 0
 RefusedAnswer = (file : List ℕ) (number place : ℕ) → refusal file ≡ some (number, place) → answerTo file ≡ refusalText number place
 

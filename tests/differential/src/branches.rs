@@ -1,16 +1,18 @@
 //! The branches of 01's steps, of its demand 3, of a park's shape, of its limits and of making a
-//! file (02, R-1) that a run must reach, each with its name in the coverage.
+//! file (02, R-1) that a run must reach, and the ends of lines (02, R-2) that it must meet in files
+//! and in lists, each with its name in the coverage.
 
 macro_rules! branches {
-    ($($branch:ident $name:literal,)*) => {
+    ($kind:ident, $names:ident: $($branch:ident $name:literal,)*) => {
         #[derive(Clone, Copy)]
-        pub enum Branch { $($branch,)* }
+        pub enum $kind { $($branch,)* }
 
-        pub const NAMES: &[&str] = &[$($name,)*];
+        pub const $names: &[&str] = &[$($name,)*];
     };
 }
 
 branches! {
+    Branch, NAMES:
     InputMetered "step 1: input metered",
     InputEstimated "step 1: input estimated",
     ActiveCut "step 2: WP0 cut",
@@ -109,4 +111,40 @@ branches! {
     RefusedBufferExact "list: refused otherwise, buffer just long enough",
     RefusedBufferOneMore "list: refused otherwise, buffer one byte longer",
     RefusedBufferMuchMore "list: refused otherwise, buffer much longer",
+    WideFromNetwork "list: refusal 14, from too wide, its lowest byte 0",
+    WideFromSite "list: refusal 14, from too wide, its lowest byte a site",
+    WideToNetwork "list: refusal 14, to too wide, its lowest byte 0",
+    WideToSite "list: refusal 14, to too wide, its lowest byte a site",
+    WideBothNetwork "list: refusal 14, an end too wide, the lowest bytes both 0",
+    WideOutOfOrder "list: refusal 14, an end too wide, the lowest bytes sites out of order",
+}
+
+branches! {
+    Ends, ENDS_NAMES:
+    NetworkToAbove "refusal 14, from the network to above s",
+    AboveToNetwork "refusal 14, from above s to the network",
+    SiteToAbove "refusal 14, from a site to above s",
+    AboveToSite "refusal 14, from above s to a site, out of order",
+    AboveInOrder "refusal 14, both ends above s, in order",
+    AboveOutOfOrder "refusal 14, both ends above s, out of order",
+    AboveEqual "refusal 14, both ends equal and above s",
+    AboveByOne "refusal 14, the higher end just above s",
+    AboveWrongMark "refusal 14, a wrong mark too",
+    AboveThenNetwork "refusal 14, a later line 23",
+    AboveThenOutOfOrder "refusal 14, a later line 24",
+    NetworkWrongMark "refusal 23, a wrong mark too",
+    NetworkThenAbove "refusal 23, a later line 14",
+    NetworkThenOutOfOrder "refusal 23, a later line 24",
+    SameSite "refusal 24, both ends the same site",
+    SameLastSite "refusal 24, both ends site s",
+    JustOutOfOrder "refusal 24, from just above to",
+    FarOutOfOrder "refusal 24, from further above to",
+    OutOfOrderWrongMark "refusal 24, a wrong mark too",
+    OutOfOrderThenAbove "refusal 24, a later line 14",
+    OutOfOrderThenNetwork "refusal 24, a later line 23",
+    MarkThenAbove "refusal 15, a later line 14",
+    MarkThenNetwork "refusal 15, a later line 23",
+    MarkThenOutOfOrder "refusal 15, a later line 24",
+    LineBack "accepted, a line back to the network",
+    NextSite "accepted, a line from a site to the next",
 }

@@ -1,11 +1,15 @@
-//! Deliberate breaches of rules 1 to 19 (01, "Where each thing is checked"), each with the number
-//! and place it must be refused with. They fit any accepted park; a breach is a few bytes set, or
-//! another length, so that nothing here goes through the calculator.
+//! Deliberate breaches of rules 1 to 19, 23 and 24 (01, "Where each thing is checked"; 02, R-2), each
+//! with the number and place it must be refused with. They fit any accepted park; a breach is a few
+//! bytes set, or another length, so that nothing here goes through the calculator.
 
 use crate::park::{line_offset, site_offset, Park, HEADER_BYTES, MONTH_HOURS};
 
 /// A field set to a value: offset, width, value.
 type Patch = (usize, usize, u64);
+
+/// The rules that a file can break, in the order of the table.
+pub const FILE_RULES: [u64; 21] =
+    [1, 2, 3, 4, 5, 6, 7, 8, 9, 10, 11, 12, 13, 14, 23, 24, 15, 16, 17, 18, 19];
 
 #[derive(Clone, Debug)]
 pub struct Breach {
@@ -32,7 +36,7 @@ impl Breach {
     }
 
     /// Where it stands in the order of checking.
-    pub fn order(&self) -> (u64, u64, u64) {
+    pub fn order(&self) -> (u64, u64, usize) {
         order(self.number, self.place)
     }
 
@@ -46,15 +50,17 @@ impl Breach {
     }
 }
 
-/// Where a refusal stands in the order of checking: header and length, sites, lines, park.
-pub fn order(number: u64, place: u64) -> (u64, u64, u64) {
+/// Where a refusal stands in the order of checking: header and length, sites, lines, park; then by
+/// its place, then by its row in the table.
+pub fn order(number: u64, place: u64) -> (u64, u64, usize) {
     let stage = match number {
         1..=9 => 1,
         10..=13 => 2,
-        14..=18 => 3,
+        14..=18 | 23 | 24 => 3,
         _ => 4,
     };
-    (stage, place, number)
+    let row = FILE_RULES.iter().position(|rule| *rule == number).expect("a rule of the table");
+    (stage, place, row)
 }
 
 /// Rules 1 to 9.
@@ -118,7 +124,7 @@ pub fn of_site(site: usize) -> Vec<Breach> {
     ]
 }
 
-/// Rules 14 to 18 at one line.
+/// Rules 14 to 18, 23 and 24 at one line.
 pub fn of_line(park: &Park, place: usize) -> Vec<Breach> {
     let start = line_offset(park.sites.len(), place);
     let mark = park.lines[place - 1].meters as u64;
@@ -140,17 +146,23 @@ pub fn of_line(park: &Park, place: usize) -> Vec<Breach> {
     breaches
 }
 
-/// Rule 14 at one line.
+/// Rules 14, 23 and 24 at one line.
 fn of_ends(park: &Park, place: usize) -> Vec<Breach> {
     let start = line_offset(park.sites.len(), place);
     let last = park.sites.len() as u64;
-    let mut ends =
-        vec![(0, last + 1), (last + 1, 0), (255, last), (1, 255), (0, 0), (1, 1), (last, last)];
+    let next = last + 1;
+    let in_order = [(0, next), (next, 0), (1, 255), (last, next)];
+    let out_of_order = [(next, 1), (255, last), (next, next), (next + 1, next), (255, 255)];
+    let above = in_order.into_iter().chain(out_of_order).map(|ends| (14, ends));
+    let mut breaches: Vec<_> = above.collect();
+    breaches.extend([(23, (0, 0)), (24, (1, 1)), (24, (last, last))]);
     if last > 1 {
-        ends.extend([(2, 1), (last, last - 1)]);
+        breaches.extend([(24, (2, 1)), (24, (last, last - 1)), (24, (last, 1))]);
     }
-    let breach = |(from, to)| Breach::new(14, place, vec![(start, 1, from), (start + 1, 1, to)]);
-    ends.into_iter().map(breach).collect()
+    let breach = |(number, (from, to))| {
+        Breach::new(number, place, vec![(start, 1, from), (start + 1, 1, to)])
+    };
+    breaches.into_iter().map(breach).collect()
 }
 
 /// Rule 18 at one line, with the mark, WQ, WG and WN set.

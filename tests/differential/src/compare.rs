@@ -8,6 +8,7 @@ use crate::balance::balance;
 use crate::calculator::{self, Bill, Refusal};
 use crate::coverage::Coverage;
 use crate::failures::{Case, Failures};
+use crate::former;
 use crate::park::Park;
 use crate::product::{Product, Reply};
 use crate::rules::accepted_park;
@@ -124,9 +125,14 @@ impl<'p> Tester<'p> {
     }
 
     fn expect(&mut self, file: &[u8]) -> Result<Accepted, Refusal> {
-        let park =
-            accepted_park(file).inspect_err(|refusal| self.coverage.reply(refusal.number))?;
+        let park = accepted_park(file).inspect_err(|refusal| {
+            self.coverage.reply(refusal.number);
+            if refusal.place != 0 {
+                self.coverage.ends.refused(&Park::from_file(file), *refusal);
+            }
+        })?;
         self.coverage.reply(0);
+        self.coverage.ends.accepted(&park);
         self.coverage.shape(&park);
         self.coverage.limits(&park);
         let mut bills = Vec::new();
@@ -141,6 +147,7 @@ impl<'p> Tester<'p> {
     fn compare_check(&mut self, file: &[u8], expected: &Result<Accepted, Refusal>) {
         let reply = self.product.check(file);
         self.same(format_args!("check"), reply_to(expected), reply);
+        self.same_as_before(former::of_file(file), reply);
     }
 
     /// Bills sites there are and sites there are not; returns the bills of sites 1 to s.

@@ -1,16 +1,24 @@
-//! How often each refusal of 01 and each branch of its steps was reached; list_coverage.rs counts
-//! for the lists of 02. A run in which one was never reached has shown too little, and fails.
+//! How often each refusal of a file and each branch of 01's steps was reached; list_coverage.rs
+//! counts for the lists of 02, and ends_coverage.rs for the ends of lines. A run in which one was
+//! never reached has shown too little, and fails.
 
 use crate::balance::Balance;
 use crate::branches::{Branch, NAMES};
+use crate::ends_coverage::EndsCoverage;
 use crate::list_coverage::ListCoverage;
 use crate::park::{Line, Park, MONTH_HOURS};
 use crate::steps::{Consumption, Generation, Lines, Source, Working};
 
+/// The refusals that a file can meet, in the order of the table; 0 stands for an accepted one.
+const FILE_REPLIES: [u64; 24] =
+    [0, 1, 2, 3, 4, 5, 6, 7, 8, 9, 10, 11, 12, 13, 14, 23, 24, 15, 16, 17, 18, 19, 20, 21];
+
 pub struct Coverage {
-    /// By refusal number; place 0 counts the accepted files.
-    refusals: [u64; 22],
+    /// By refusal number.
+    refusals: [u64; 25],
     branches: Vec<u64>,
+    /// Ends of lines in files.
+    pub ends: EndsCoverage,
     pub lists: ListCoverage,
 }
 
@@ -21,8 +29,8 @@ fn half(numerator: i128, denominator: i128) -> bool {
 
 impl Coverage {
     pub fn new() -> Coverage {
-        let lists = ListCoverage::default();
-        Coverage { refusals: [0; 22], branches: vec![0; NAMES.len()], lists }
+        let (ends, lists) = (EndsCoverage::default(), ListCoverage::default());
+        Coverage { refusals: [0; 25], branches: vec![0; NAMES.len()], ends, lists }
     }
 
     /// Counts a reply: 0 for an accepted file.
@@ -207,13 +215,14 @@ impl Coverage {
 
     /// Prints every count, and returns the names of those that are 0.
     pub fn print(&self) -> Vec<String> {
-        let refusals = self.refusals.iter().enumerate().map(|(number, count)| match number {
-            0 => ("accepted".to_string(), *count),
-            _ => (format!("refusal {number}"), *count),
+        let refusals = FILE_REPLIES.iter().map(|number| match number {
+            0 => ("accepted".to_string(), self.refusals[0]),
+            _ => (format!("refusal {number}"), self.refusals[*number as usize]),
         });
         let branches = NAMES.iter().map(|name| name.to_string()).zip(self.branches.iter().copied());
         let mut missing = Vec::new();
-        for (name, count) in refusals.chain(branches).chain(self.lists.counts()) {
+        let ends = self.ends.counts("file");
+        for (name, count) in refusals.chain(branches).chain(ends).chain(self.lists.counts()) {
             println!("{count:>10}  {name}");
             if count == 0 {
                 missing.push(name);

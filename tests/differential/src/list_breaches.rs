@@ -30,7 +30,7 @@ impl ListBreach {
     }
 
     /// Where it stands in the order of checking.
-    pub fn order(&self) -> (u64, u64, u64) {
+    pub fn order(&self) -> (u64, u64, usize) {
         order(self.number, self.place)
     }
 
@@ -54,6 +54,7 @@ pub fn all_list_breaches(park: &Park) -> Vec<ListBreach> {
     for line in places(park.lines.len()) {
         let start = line_start(park.sites.len(), line);
         breaches.extend((start..start + 8).flat_map(|place| of_width(park, place, line)));
+        breaches.extend(of_wide_ends(park, line));
     }
     breaches.extend(of_count(park));
     breaches
@@ -104,6 +105,20 @@ fn of_width(park: &Park, place: usize, record: usize) -> Vec<ListBreach> {
         count: None,
     };
     [there + unit, there | 1 << 31, unit].map(breach).to_vec()
+}
+
+/// Rule 14 at one line, with both ends set: a byte would take them for both the network, for ends
+/// out of order, or for ends that may be.
+fn of_wide_ends(park: &Park, line: usize) -> Vec<ListBreach> {
+    let start = line_start(park.sites.len(), line);
+    let ends = [(0, 256), (256, 0), (256, 256), (1, 257), (257, 1), (257, 257), (256, 1), (1, 256)];
+    let breach = |(from, to)| ListBreach {
+        number: 14,
+        place: line as u64,
+        changes: vec![(start, from), (start + 1, to)],
+        count: None,
+    };
+    ends.map(breach).to_vec()
 }
 
 /// Rules 1 and 9; a count is wrong by one, by a record, by all records, or by what 8 or 16 bits

@@ -7,6 +7,7 @@ use crate::calculator::{self, Refusal};
 use crate::compare::{reply_to, Tester};
 use crate::failures::Case;
 use crate::fields::all_fit;
+use crate::former;
 use crate::list::{list_of_file, HEADER_NUMBERS};
 use crate::park::{line_offset, Header, Park};
 use crate::product::{Reply, UNWRITTEN};
@@ -122,6 +123,7 @@ impl Tester<'_> {
             right[GUARD..GUARD + file.len()].copy_from_slice(file);
         }
         self.same(format_args!("encode, {length}"), reply_to(&answer), reply);
+        self.same_as_before(former::of_list(numbers).and(answer.map(|_| ())), reply);
         self.same(format_args!("encode, {length}, size"), right_size, size);
         let differing = (0..buffer.len()).find(|place| buffer[*place] != right[*place]);
         let got = differing.map(|place| (place as i64 - GUARD as i64, buffer[place]));
@@ -163,6 +165,7 @@ impl Tester<'_> {
             self.same(format_args!("calculator, the list as a file"), Err(refusal), of_file);
             let reply = self.product.check(&file);
             self.same(format_args!("check of the list as a file"), reply_to(&of_file), reply);
+            self.same_as_before(former::of_file(&file), reply);
         }
     }
 }

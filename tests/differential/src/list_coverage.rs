@@ -1,22 +1,25 @@
-//! How often each refusal of a list was reached (02, R-1), and each field that is too wide.
+//! How often each refusal of a list was reached (02, R-1), each field that is too wide, and the ends
+//! of lines in lists (02, R-2).
 
 use crate::branches::Branch;
 use crate::coverage::Coverage;
+use crate::ends_coverage::EndsCoverage;
 use crate::fields::{field_at, FIELDS};
 use crate::list::HEADER_NUMBERS;
-use crate::park::{Header, Park};
+use crate::park::{Header, Line, Park};
 use crate::rules::{listed_park, Refusal};
 
-/// The refusals that a list can meet; 0 stands for an accepted one.
-const LIST_REPLIES: [u64; 19] =
-    [0, 1, 4, 5, 6, 7, 8, 9, 10, 11, 12, 13, 14, 15, 16, 17, 18, 19, 22];
+/// The refusals that a list can meet, in the order of the table; 0 stands for an accepted one.
+const LIST_REPLIES: [u64; 21] =
+    [0, 1, 4, 5, 6, 7, 8, 9, 10, 11, 12, 13, 14, 23, 24, 15, 16, 17, 18, 19, 22];
 
 #[derive(Default)]
 pub struct ListCoverage {
     /// By refusal number.
-    refusals: [u64; 23],
+    refusals: [u64; 25],
     /// By field.
     narrowed: [u64; FIELDS.len()],
+    ends: EndsCoverage,
 }
 
 impl ListCoverage {
@@ -30,7 +33,7 @@ impl ListCoverage {
         let narrowed = narrow.map(|(field, count)| {
             (format!("list: refused, accepted if {} narrowed", field.name), count)
         });
-        replies.chain(narrowed)
+        replies.chain(narrowed).chain(self.ends.counts("list"))
     }
 }
 
@@ -58,11 +61,15 @@ impl Coverage {
             Ok(park) => {
                 let (sites, lines) = (park.sites.len(), park.lines.len());
                 self.list_reply(0);
+                self.lists.ends.accepted(park);
                 self.count(Branch::SmallestMade, sites == 1 && lines == 1);
                 self.count(Branch::LargestMade, sites == 16 && lines == 64);
             }
             Err(refusal) => {
                 self.list_reply(refusal.number);
+                if refusal.place != 0 {
+                    self.refused_record(&Park::from_list(numbers), *refusal);
+                }
                 let wrong_count = refusal.number == 9;
                 let longer = wrong_count && numbers.len() > Header::of_list(numbers).list_numbers();
                 self.count(Branch::ListTooLong, wrong_count && longer);
@@ -73,5 +80,28 @@ impl Coverage {
                 }
             }
         }
+    }
+
+    /// Counts a list that is refused at a site or line.
+    fn refused_record(&mut self, park: &Park, refusal: Refusal) {
+        self.lists.ends.refused(park, refusal);
+        if refusal.number == 14 {
+            let line = &park.lines[refusal.place as usize - 1];
+            self.wide_ends(line, park.sites.len() as u32);
+        }
+    }
+
+    /// Ends of a line refused by 14 that a byte would not hold.
+    fn wide_ends(&mut self, line: &Line, sites: u32) {
+        let [wide_from, wide_to] = [line.from, line.to].map(|end| end > 255);
+        let [from, to] = [line.from, line.to].map(|end| end & 255);
+        let [from_site, to_site] = [from, to].map(|end| (1..=sites).contains(&end));
+        let wide = wide_from || wide_to;
+        self.count(Branch::WideFromNetwork, wide_from && from == 0);
+        self.count(Branch::WideFromSite, wide_from && from_site);
+        self.count(Branch::WideToNetwork, wide_to && to == 0);
+        self.count(Branch::WideToSite, wide_to && to_site);
+        self.count(Branch::WideBothNetwork, wide && from == 0 && to == 0);
+        self.count(Branch::WideOutOfOrder, wide && from_site && to_site && from >= to);
     }
 }

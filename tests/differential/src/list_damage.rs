@@ -1,6 +1,6 @@
 //! Damaged lists (02, R-1), made from an accepted one: numbers set to their limits, past them and
-//! to what their fields would narrow, numbers dropped, added or exchanged, other counts of sites
-//! and lines, random numbers, and breaches of one or two rules.
+//! to what their fields would narrow, other ends of lines, numbers dropped, added or exchanged,
+//! other counts of sites and lines, random numbers, and breaches of one or two rules.
 
 use crate::fields::{field_at, FIELDS};
 use crate::list::{line_start, site_start};
@@ -11,7 +11,7 @@ use crate::random::Random;
 /// A list made from this park's; it may happen to be accepted still.
 pub fn random_list_damage(random: &mut Random, park: &Park) -> Vec<u32> {
     let mut numbers = park.to_list();
-    match random.index(16) {
+    match random.index(18) {
         0 => numbers.truncate(random.index(numbers.len())),
         1 => numbers.truncate(random.index(6)),
         2 => {
@@ -30,6 +30,7 @@ pub fn random_list_damage(random: &mut Random, park: &Park) -> Vec<u32> {
         }
         8 => random_stretch(random, &mut numbers),
         9 => breaches(random, park, &mut numbers),
+        10 | 11 => set_ends(random, park, &mut numbers),
         _ => {
             for _ in 0..random.between(1, 2) {
                 change_number(random, park, &mut numbers);
@@ -62,6 +63,23 @@ fn change_number(random: &mut Random, park: &Park, numbers: &mut [u32]) {
         6 => random.pick(&[there.wrapping_add(1), there.wrapping_sub(1), there ^ 0x80]),
         _ => random.next() as u32 >> random.index(32),
     };
+}
+
+/// A few lines with any ends up to two above s, the network often, some of them too wide for a
+/// byte, and some of their marks wrong.
+fn set_ends(random: &mut Random, park: &Park, numbers: &mut [u32]) {
+    let sites = park.sites.len();
+    for _ in 0..random.between(1, 3) {
+        let start = line_start(sites, random.index(park.lines.len()) + 1);
+        for end in &mut numbers[start..start + 2] {
+            let any = random.index(sites + 3) as u32;
+            *end = random.pick(&[0, any, any]);
+            *end += random.pick(&[0, 0, 0, 0, 0, 0, 0, 256, 0x1_0000]);
+        }
+        if random.chance(30) {
+            numbers[start + 2] = random.pick(&[4, 5, 8, 255, 256]);
+        }
+    }
 }
 
 fn lengthen(random: &mut Random, numbers: &mut Vec<u32>) {

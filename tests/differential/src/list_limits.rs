@@ -1,12 +1,13 @@
 //! Lists with one number on a boundary (02, R-1): around its limit, around the widths of bytes, and
-//! beside the number that was there; every value of the narrowest fields; every length of buffer.
+//! beside the number that was there; every value of the narrowest fields; every two ends of a line;
+//! every length of buffer.
 
 use crate::calculator;
 use crate::compare::{reply_to, Tester};
 use crate::fields::{field_at, FIELDS};
 use crate::list::{line_start, site_start, HEADER_NUMBERS, LINE_NUMBERS, SITE_NUMBERS};
 use crate::park::{Park, MONTH_HOURS};
-use crate::parks::{alder, five_sites, largest_park, one_line, places};
+use crate::parks::{alder, five_sites, largest_park, one_line, places, with_line};
 
 pub fn run(tester: &mut Tester) {
     let parks = [
@@ -19,6 +20,7 @@ pub fn run(tester: &mut Tester) {
         boundaries(tester, name, park);
     }
     narrow_fields(tester);
+    ends_of_lines(tester);
     hours_of_months(tester);
     counts_of_records(tester);
     buffers(tester);
@@ -67,6 +69,20 @@ fn narrow_fields(tester: &mut Tester) {
             tester.list(&format!("list of Alder, {what} at {place} set to {number}"), &numbers);
         }
         numbers[place] = there;
+    }
+}
+
+/// Rules 14, 23 and 24: every two ends up to two above the most sites, and some that are too wide
+/// for a byte, on a line that feeds no site alone, with a right mark and with a wrong one.
+fn ends_of_lines(tester: &mut Tester) {
+    let wide = [255, 256, 257, 258, 271, 272, 273, 0x1_0000, 0x1_0001, 0x8000_0001, u32::MAX];
+    let ends: Vec<u32> = (0..=18).chain(wide).collect();
+    for (sites, mark) in [1, 2, 15, 16].into_iter().flat_map(|sites| [(sites, 1), (sites, 5)]) {
+        for (from, to) in ends.iter().flat_map(|from| ends.iter().map(move |to| (*from, *to))) {
+            let numbers = with_line(sites, from, to, mark).to_list();
+            let name = format!("list of {sites} sites, a line {from} to {to}, mark {mark}");
+            tester.list(&name, &numbers);
+        }
     }
 }
 

@@ -5,6 +5,7 @@
 use crate::calculator::{encode, Refusal};
 use crate::compare::Tester;
 use crate::failures::Case;
+use crate::former;
 use crate::list_breaches::{all_list_breaches, ListBreach};
 use crate::park::Park;
 use crate::parks::{five_sites, largest_park};
@@ -42,6 +43,7 @@ fn expect_breach(tester: &mut Tester, park: &Park, breaches: &[&ListBreach]) -> 
         tester.same(format_args!("calculator, encode"), Err(Refusal { number, place }), answer);
         let reply = tester.product.encode(&numbers, &mut buffer[..length]);
         tester.same(format_args!("product, encode"), (Reply { number, place }, 0), reply);
+        tester.same_as_before(former::of_list(&numbers), reply.0);
         tester.same(format_args!("product, buffer kept"), true, buffer == [0x99; BUFFER]);
     }
     numbers

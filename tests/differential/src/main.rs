@@ -1,5 +1,5 @@
-//! The differential test program of the park bill: a calculator written from papers 01 and 02
-//! alone, held against the product's four calls and its program parkbill.
+//! The differential test program of the park bill: a calculator written from papers 01 and 02 (R-1
+//! and R-2) alone, held against the product's four calls and its program parkbill.
 //!
 //! - `park_tests` runs the named cases, the example files, the refusals, the sweeps and the generated
 //!   files, and for lists of a park's numbers the named ones, refusals, limits and generated ones;
@@ -19,9 +19,11 @@ mod calculator;
 mod compare;
 mod coverage;
 mod damage;
+mod ends_coverage;
 mod examples;
 mod failures;
 mod fields;
+mod former;
 mod generate;
 mod generated_run;
 mod list;
@@ -35,8 +37,10 @@ mod list_run;
 mod mistakes;
 mod mock;
 mod mock_encode;
+mod mock_ends;
 mod mock_steps;
 mod named;
+mod named_ends;
 mod named_lists;
 mod park;
 mod parks;

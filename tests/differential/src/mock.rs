@@ -1,6 +1,7 @@
 //! A second path, apart from the calculator, that stands in for the product: it reads raw bytes,
-//! gathers all breaches of 01's table and takes the least. Its steps are in mock_steps.rs, and its
-//! making of files in mock_encode.rs. It can be told to make one mistake.
+//! gathers all breaches of 01's table and takes the first. Its rules for the ends of lines are in
+//! mock_ends.rs, its steps in mock_steps.rs, and its making of files in mock_encode.rs. It can be
+//! told to make one mistake.
 
 use std::io;
 
@@ -40,22 +41,33 @@ impl Mock {
         for (index, site) in file[14..].chunks_exact(11).take(file[6] as usize).enumerate() {
             found.extend(self.site_breaches(site).map(|number| (2, index as u64 + 1, number)));
         }
-        let stage = if self.makes(Mistake::LinesBeforeSites) { 1 } else { 3 };
         for (index, line) in lines(file).enumerate() {
             let breaches = self.line_breaches(line, file[6]);
-            found.extend(breaches.map(|number| (stage, index as u64 + 1, number)));
+            found.extend(breaches.map(|number| (self.stage(number), index as u64 + 1, number)));
         }
         let unfed = (1..=file[6]).filter(|site| lines(file).all(|line| line[1] != *site));
         let least = if self.makes(Mistake::HighestUnfedSite) { unfed.max() } else { unfed.min() };
-        found.extend(least.map(|site| (4, site as u64, 19)));
-        match found.into_iter().min() {
+        found.extend(least.map(|site| (5, site as u64, 19)));
+        match found.into_iter().min_by_key(|(stage, place, _)| (*stage, *place)) {
             None if self.makes(Mistake::RefusesEverything) => (9, 0),
             None => (0, 0),
-            Some((_, place, number @ 14..=18)) if self.makes(Mistake::LinePlaceFromZero) => {
+            Some((_, place, number @ (14..=18 | 23 | 24)))
+                if self.makes(Mistake::LinePlaceFromZero) =>
+            {
                 (number, place - 1)
             }
             Some((2, _, number)) if self.makes(Mistake::SitePlaceLost) => (number, 0),
+            Some((_, _, number @ (23 | 24))) if self.makes(Mistake::EndsPlaceLost) => (number, 0),
             Some((_, place, number)) => (number, place),
+        }
+    }
+
+    /// When a line's rule is looked at; sites are looked at in stage 2.
+    fn stage(&self, number: u64) -> u64 {
+        match (self.0, number) {
+            (Some(Mistake::LinesBeforeSites), _) => 1,
+            (Some(Mistake::EndsOfAllLinesFirst), 14 | 23 | 24) => 3,
+            _ => 4,
         }
     }
 
@@ -98,25 +110,27 @@ impl Mock {
     }
 
     fn line_breaches(&self, line: &[u8], sites: u8) -> impl Iterator<Item = u64> {
-        let (from, to, mark) = (line[0], line[1], line[2]);
+        let mark = line[2];
         let [active, reactive, generated, night] = [5, 9, 13, 17].map(|offset| at(line, offset, 4));
-        let forward = if from == 0 { to != 0 } else { to == 0 || from < to };
-        let back_refused = to == 0 && self.makes(Mistake::LineBackRefused);
+        let [above, network, out_of_order] = self.ends_breached(line[0], line[1], sites);
         let mark_five = mark == 5 && self.makes(Mistake::MarkFiveAccepted);
-        let above = night > generated && !self.makes(Mistake::NightAboveGeneratedAccepted);
+        let night_above = night > generated && !self.makes(Mistake::NightAboveGeneratedAccepted);
         let unmetered = [(1, reactive), (2, generated), (4, night)]
             .iter()
             .any(|(meter, reading)| mark & meter == 0 && *reading != 0);
         let unmetered = unmetered && !self.makes(Mistake::ReadingWithoutMeterAccepted);
         let most = 10_000_000 + self.makes(Mistake::ReadingLimitOneHigher) as i64;
-        let breached = [
-            from > sites || to > sites || !forward || back_refused,
-            !([0, 1, 2, 3, 6, 7].contains(&mark) || mark_five),
-            !(1..=5_000).contains(&at(line, 3, 2)),
-            active.max(reactive).max(generated).max(night) > most,
-            unmetered || above,
+        let mut rows = [
+            (14, above),
+            (23, network),
+            (24, out_of_order),
+            (15, !([0, 1, 2, 3, 6, 7].contains(&mark) || mark_five)),
+            (16, !(1..=5_000).contains(&at(line, 3, 2))),
+            (17, active.max(reactive).max(generated).max(night) > most),
+            (18, unmetered || night_above),
         ];
-        (14..).zip(breached).filter(|(_, breached)| *breached).map(|(number, _)| number)
+        self.misplace_ends(&mut rows);
+        rows.into_iter().filter(|(_, breached)| *breached).map(|(number, _)| number)
     }
 
     pub fn reply(&self, (number, place): (u64, u64)) -> Reply {
@@ -132,7 +146,7 @@ impl Product for Mock {
 
     fn bill_site(&self, file: &[u8], bill: &mut Bill, site: u64) -> Reply {
         let site = if self.makes(Mistake::SiteTakenAsByte) { site & 255 } else { site };
-        let mut refusal = self.refusal(file);
+        let mut refusal = self.former_if(Mistake::FormerEndsBilled, self.refusal(file));
         if refusal.0 == 0 && (site == 0 || site > file[6] as u64) {
             refusal = (20, 0);
         }
@@ -145,7 +159,7 @@ impl Product for Mock {
     }
 
     fn bill_park(&self, file: &[u8], list: &mut [u64]) -> (Reply, u64) {
-        let mut refusal = self.refusal(file);
+        let mut refusal = self.former_if(Mistake::FormerEndsBilled, self.refusal(file));
         let least = 11 * file.get(6).map_or(0, |sites| *sites as usize);
         let longer = list.len() > least && self.makes(Mistake::LongerListRefused);
         let short = list.len() < least && !self.makes(Mistake::ShortListAccepted);
@@ -173,7 +187,7 @@ impl Product for Mock {
     }
 
     fn printed(&self, file: &[u8]) -> io::Result<Vec<u8>> {
-        let mut text = match self.refusal(file) {
+        let mut text = match self.former_if(Mistake::FormerEndsPrinted, self.refusal(file)) {
             (0, _) => table(&self.bills(file)),
             (number, place) => format!("refused,{number},{place}\n"),
         };

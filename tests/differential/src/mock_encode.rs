@@ -81,7 +81,7 @@ impl Mock {
 
     /// The refusal of a list that makes this file, for a buffer of this length.
     fn list_refusal(&self, numbers: &[u32], file: &[u8], length: usize) -> (u64, u64) {
-        let refusal = self.refusal(file);
+        let refusal = self.former_if(Mistake::FormerEndsMade, self.refusal(file));
         let wrong_count = numbers.len() != self.right_count(numbers);
         let mut short = length < file.len();
         match self.0 {
@@ -129,7 +129,7 @@ impl Mock {
     fn write_on_refusal(&self, number: u64, file: &[u8], buffer: &mut [u8]) {
         let most = match self.0 {
             Some(Mistake::BufferWrittenOnRefusal) if number != 22 => 1,
-            Some(Mistake::HeaderWrittenOnRefusal) if (10..=19).contains(&number) => 14,
+            Some(Mistake::HeaderWrittenOnRefusal) if matches!(number, 10..=19 | 23 | 24) => 14,
             Some(Mistake::ShortBufferFilled) if number == 22 => file.len(),
             _ => 0,
         };

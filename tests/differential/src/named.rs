@@ -1,11 +1,13 @@
 //! The named cases of 01 ("Park Alder, and its neighbours"), starred and unstarred, and a few of
-//! "Shortcuts the annex forbids". Every expected value is written by hand from the paper, and is
-//! held against the calculator as well as against the product.
+//! "Shortcuts the annex forbids"; those of 02, R-2, are in named_ends.rs. Every expected value is
+//! written by hand from the paper, and is held against the calculator as well as against the
+//! product.
 
 use crate::balance::balance;
 use crate::calculator::{bill_park, bill_site, check, printed, Refusal};
 use crate::compare::Tester;
 use crate::list::site;
+use crate::named_ends;
 use crate::park::Park;
 use crate::parks::{alder, alder_cut, one_line, small_park, ALDER_FILE, ALDER_PRINTED};
 use crate::product::{Reply, UNWRITTEN};
@@ -51,7 +53,7 @@ fn expect_numbers(
 }
 
 /// Holds the reply to a check against both, `None` for accepted; then everything about the file.
-fn expect_reply(tester: &mut Tester, name: &str, file: &[u8], refusal: Option<(u64, u64)>) {
+pub fn expect_reply(tester: &mut Tester, name: &str, file: &[u8], refusal: Option<(u64, u64)>) {
     let right = match refusal {
         Some((number, place)) => Err(Refusal { number, place }),
         None => Ok(()),
@@ -71,6 +73,7 @@ pub fn run(tester: &mut Tester) {
     money(tester);
     reasons(tester);
     refusals(tester);
+    named_ends::files(tester);
     forbidden_shortcuts(tester);
     generations(tester);
     extremes(tester);

@@ -1,9 +1,11 @@
 //! Named lists (02, R-1): Alder's, numbers that only 32 bits tell from accepted ones, wrong counts
-//! and buffers. Every expected answer is written by hand from the papers, but for the largest
-//! file, and is held against the calculator as well as against the product.
+//! and buffers; other ends of lines are in named_ends.rs. Every expected answer is written by
+//! hand from the papers, but for the largest file, and is held against the calculator as well as
+//! against the product.
 
 use crate::calculator::{encode, Refusal};
 use crate::compare::Tester;
+use crate::named_ends;
 use crate::parks::{alder, largest_park, one_line, ALDER_FILE};
 use crate::product::Reply;
 
@@ -20,7 +22,7 @@ pub const ALDER_LIST: [u32; 39] = [
 
 /// Holds the refusal of a list for a buffer of this length against both; then everything about the
 /// list.
-fn expect_refusal(
+pub fn expect_refusal(
     tester: &mut Tester,
     name: &str,
     numbers: &[u32],
@@ -65,6 +67,7 @@ pub fn run(tester: &mut Tester) {
     wide_sites(tester);
     wide_lines(tester);
     limits(tester);
+    named_ends::lists(tester);
     counts(tester);
     orders(tester);
     buffers(tester);
@@ -177,8 +180,8 @@ fn limits(tester: &mut Tester) {
         ("Q 1 with flag 0", 12, 1, (12, 2)),
         ("h 1,001", 14, 1_001, (13, 2)),
         ("from 3", 15, 3, (14, 1)),
-        ("a line from 2 to 2", 23, 2, (14, 2)),
-        ("a line from 0 to 0", 32, 0, (14, 3)),
+        ("a line from 0 to 0", 32, 0, (23, 3)),
+        ("a line from 2 to 2", 23, 2, (24, 2)),
         ("mark 5", 17, 5, (15, 1)),
         ("D 0", 18, 0, (16, 1)),
         ("D 5,001", 26, 5_001, (16, 2)),

@@ -78,6 +78,14 @@ pub fn largest_park() -> Park {
     Park { sites: vec![site([16, 1, 0, 0, 0]); 16], lines: lines.collect(), ..alder() }
 }
 
+/// A park of so many sites, each fed by a line of its own, and after those a line with these ends
+/// and this mark.
+pub fn with_line(sites: usize, from: u32, to: u32, mark: u32) -> Park {
+    let feeds = (1..=sites as u32).map(|to| line([0, to, 0, 1, 1_000, 0, 0, 0]));
+    let lines = feeds.chain([line([from, to, mark, 1, 500, 400, 0, 0])]).collect();
+    Park { sites: vec![site([16, 0, 0, 0, 0]); sites], lines, ..alder() }
+}
+
 /// First, middle and last.
 pub fn places(count: usize) -> [usize; 3] {
     [1, count / 2 + 1, count]

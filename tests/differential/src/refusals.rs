@@ -2,7 +2,7 @@
 //! must be refused with is known from how it was made, and is held against the calculator as well
 //! as against the product.
 
-use crate::breaches::{of_header, of_inputs, of_line, of_site, Breach};
+use crate::breaches::{of_header, of_inputs, of_line, of_site, Breach, FILE_RULES};
 use crate::calculator::{check, Refusal};
 use crate::compare::Tester;
 use crate::park::Park;
@@ -75,7 +75,7 @@ fn cuts(tester: &mut Tester, name: &str, park: &Park) {
 fn printed_refusals(tester: &mut Tester) {
     let park = five_sites();
     let breaches = all_breaches(&park);
-    for number in 1..=19 {
+    for number in FILE_RULES {
         let breach = breaches.iter().rfind(|breach| breach.number == number).expect("a breach");
         let mut file = park.to_file();
         breach.apply(&mut file);

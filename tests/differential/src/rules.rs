@@ -1,12 +1,12 @@
-//! What is refused, and in which order (01, "Where each thing is checked"): rules 1 to 19, of a
-//! file and of a list of its numbers (02, R-1). Rules 20 to 22 belong to the calls, in
-//! calculator.rs.
+//! What is refused, and in which order (01, "Where each thing is checked"; 02, R-2): rules 1 to 19,
+//! 23 and 24, of a file and of a list of its numbers (02, R-1). Rules 20 to 22 belong to the calls,
+//! in calculator.rs.
 
 use crate::list::HEADER_NUMBERS;
 use crate::park::{number_at, Header, Line, Park, Site, HEADER_BYTES, MONTH_HOURS};
 
 /// A refusal: its number in the table, and its place, which is the site or line counted from 1
-/// for 10 to 19, else 0.
+/// for 10 to 19, 23 and 24, else 0.
 #[derive(Clone, Copy, Debug, PartialEq, Eq)]
 pub struct Refusal {
     pub number: u64,
@@ -21,9 +21,22 @@ pub fn refuse_if(condition: bool, number: u64, place: usize) -> Result<(), Refus
     Ok(())
 }
 
-/// The park of an accepted file, or the first refusal met: the header and the length by number,
-/// then each site, then each line, then 19.
+/// What refuses the two ends of a line, given its place and the number of sites.
+pub type EndRules = fn(&Line, usize, usize) -> Result<(), Refusal>;
+
+/// The park of an accepted file, or the first refusal met.
 pub fn accepted_park(file: &[u8]) -> Result<Park, Refusal> {
+    park_of_file(file, check_ends)
+}
+
+/// The park of an accepted list, or the first refusal met.
+pub fn listed_park(numbers: &[u32]) -> Result<Park, Refusal> {
+    park_of_list(numbers, check_ends)
+}
+
+/// A file held to the table with these rules for the ends: the header and the length by number,
+/// then each site, then each line, then 19.
+pub fn park_of_file(file: &[u8], ends: EndRules) -> Result<Park, Refusal> {
     refuse_if(file.len() < HEADER_BYTES, 1, 0)?;
     refuse_if(&file[0..3] != b"PRK", 2, 0)?;
     refuse_if(number_at(file, 3, 2) != 1, 3, 0)?;
@@ -31,19 +44,19 @@ pub fn accepted_park(file: &[u8]) -> Result<Park, Refusal> {
     check_header(&header)?;
     refuse_if(file.len() != header.file_bytes(), 9, 0)?;
     let park = Park::from_file(file);
-    check_records(&park)?;
+    check_records(&park, ends)?;
     Ok(park)
 }
 
-/// The park of an accepted list, or the first refusal met, in the same order. A list has no
-/// letters and no version, so there is nothing for 2 and 3 to refuse.
-pub fn listed_park(numbers: &[u32]) -> Result<Park, Refusal> {
+/// A list held to the same, in the same order. It has no letters and no version, so there is
+/// nothing for 2 and 3 to refuse.
+pub fn park_of_list(numbers: &[u32], ends: EndRules) -> Result<Park, Refusal> {
     refuse_if(numbers.len() < HEADER_NUMBERS, 1, 0)?;
     let header = Header::of_list(numbers);
     check_header(&header)?;
     refuse_if(numbers.len() != header.list_numbers(), 9, 0)?;
     let park = Park::from_list(numbers);
-    check_records(&park)?;
+    check_records(&park, ends)?;
     Ok(park)
 }
 
@@ -57,13 +70,14 @@ fn check_header(header: &Header) -> Result<(), Refusal> {
     refuse_if(hours > MONTH_HOURS[month as usize - 1], 8, 0)
 }
 
-/// Rules 10 to 19.
-fn check_records(park: &Park) -> Result<(), Refusal> {
+/// Rules 10 to 19, 23 and 24.
+fn check_records(park: &Park, ends: EndRules) -> Result<(), Refusal> {
     for (index, site) in park.sites.iter().enumerate() {
         check_site(site, index + 1)?;
     }
     for (index, line) in park.lines.iter().enumerate() {
-        check_line(line, index + 1, park.sites.len())?;
+        ends(line, index + 1, park.sites.len())?;
+        check_line(line, index + 1)?;
     }
     check_inputs(park)
 }
@@ -78,12 +92,15 @@ fn check_site(site: &Site, place: usize) -> Result<(), Refusal> {
     refuse_if(site.discount > 1_000, 13, place)
 }
 
-/// Rules 14 to 18, for one line.
-fn check_line(line: &Line, place: usize, sites: usize) -> Result<(), Refusal> {
-    let above = line.from as usize > sites || line.to as usize > sites;
-    let both_network = line.from == 0 && line.to == 0;
-    let backwards = line.joins_two_sites() && line.from >= line.to;
-    refuse_if(above || both_network || backwards, 14, place)?;
+/// Rules 14, 23 and 24, for the ends of one line.
+fn check_ends(line: &Line, place: usize, sites: usize) -> Result<(), Refusal> {
+    refuse_if(line.from as usize > sites || line.to as usize > sites, 14, place)?;
+    refuse_if(line.from == 0 && line.to == 0, 23, place)?;
+    refuse_if(line.joins_two_sites() && line.from >= line.to, 24, place)
+}
+
+/// Rules 15 to 18, for the rest of one line.
+fn check_line(line: &Line, place: usize) -> Result<(), Refusal> {
     refuse_if(line.meters > 7 || line.measures_night() && !line.measures_generated(), 15, place)?;
     refuse_if(line.eerp == 0 || line.eerp > 5_000, 16, place)?;
     let readings = [line.active, line.reactive, line.generated, line.night];

@@ -1,5 +1,5 @@
 //! Shapes of random parks: how many sites there are, and which lines join them. Every site has an
-//! input line, and a line between sites goes from a lower to a higher one (01, rules 14 and 19).
+//! input line, and a line between sites goes from a lower to a higher one (rules 19 and 24).
 
 use crate::random::Random;
 

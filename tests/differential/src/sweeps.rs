@@ -2,9 +2,8 @@
 //! wrong at a single value.
 
 use crate::compare::Tester;
-use crate::list::{line, site};
 use crate::park::{Park, MONTH_HOURS};
-use crate::parks::{alder, one_line, small_park};
+use crate::parks::{alder, one_line, small_park, with_line};
 
 pub fn run(tester: &mut Tester) {
     every_byte(tester);
@@ -38,15 +37,13 @@ fn hours_of_months(tester: &mut Tester) {
     }
 }
 
-/// Rule 14: every two ends up to two above the most sites, on a line that feeds no site alone.
+/// Rules 14, 23 and 24: every two ends up to two above the most sites, on a line that feeds no site
+/// alone, with a right mark and with a wrong one.
 fn ends_of_lines(tester: &mut Tester) {
-    for sites in [1, 2, 15, 16] {
-        let mut park = Park { sites: vec![site([16, 0, 0, 0, 0]); sites], ..alder() };
-        park.lines = (1..=sites as u32).map(|to| line([0, to, 0, 1, 1_000, 0, 0, 0])).collect();
+    for (sites, mark) in [1, 2, 15, 16].into_iter().flat_map(|sites| [(sites, 1), (sites, 5)]) {
         for (from, to) in (0..=18).flat_map(|from| (0..=18).map(move |to| (from, to))) {
-            park.lines.push(line([from, to, 1, 1, 500, 400, 0, 0]));
-            tester.file(&format!("{sites} sites, a line {from} to {to}"), &park.to_file());
-            park.lines.pop();
+            let file = with_line(sites, from, to, mark).to_file();
+            tester.file(&format!("{sites} sites, a line {from} to {to}, mark {mark}"), &file);
         }
     }
 }
