@@ -46,9 +46,7 @@ impl Line {
 
     const AT_NIGHT: usize = 17;
 
-    // Limits of rules 15 to 17.
-    pub const MOST_MARK: u32 = meter::ALL;
-
+    // Limits of rules 16 and 17.
     pub const MOST_EERP: u32 = 5_000;
 
     pub const MOST_READING: u32 = 10_000_000;
@@ -127,11 +125,24 @@ impl Line {
         (self.from != 0) & ((self.to != 0) & (self.to <= self.from))
     }
 
-    // Rule 15: the mark is above 7, or holds 4 without 2.
+    // Rule 15: the meter mark is none of those accepted here. Beside each stand the signs of columns 5 to 9 in the table of annex item 10.
+    // A+ is + on every line, and no mark speaks of A–.
     fn wrong_meters(self) -> bool
         ensures { λ r. ⌜ r ≡ wrongMeters (self .meters) ⌝ }
     {
-        (Line::MOST_MARK < self.meters) | (self.measures_night() & !self.measures_generated())
+        let mark = self.meters;
+        let accepted = match mark {
+            //            A+ Р+ A– Р– ЗН
+            0 => true, // +  –     –  –   active consumption
+            1 => true, // +  +     –  –   and reactive consumption
+            2 => true, // +  –     +  –   and reactive generation
+            3 => true, // +  +     +  –   and reactive consumption, reactive generation
+            4..=5 => false, // ЗН without Р–: the night valley without reactive generation
+            6 => true, // +  –     +  +   and reactive generation, its night valley
+            7 => true, // +  +     +  +   and reactive consumption, reactive generation, its night valley
+            _ => false, // 8 and above: no such meters
+        };
+        !accepted
     }
 
     // Rule 17: a reading is above its most.
@@ -165,25 +176,34 @@ impl Line {
     pub fn broken(self, sites: u32) -> u32
         ensures { λ r. ⌜ ((place : ℕ) → refusalAt r place ≡ firstBroken (lineRules sites place self)) ⌝ }
     {
-        if self.end_above(sites) {
+        // Every test is made before the first is asked: accepted lines differ in their marks, and a jump by the mark alone would often be
+        // guessed wrongly by the processor.
+        let end_above = self.end_above(sites);
+        let both_network = self.both_network();
+        let backwards = self.backwards();
+        let wrong_meters = self.wrong_meters();
+        let wrong_eerp = rule::zero_or_above(Line::MOST_EERP, self.eerp);
+        let reading_above = self.reading_above();
+        let wrong_readings = self.wrong_readings();
+        if end_above {
             return 14;
         }
-        if self.both_network() {
+        if both_network {
             return 23;
         }
-        if self.backwards() {
+        if backwards {
             return 24;
         }
-        if self.wrong_meters() {
+        if wrong_meters {
             return 15;
         }
-        if rule::zero_or_above(Line::MOST_EERP, self.eerp) {
+        if wrong_eerp {
             return 16;
         }
-        if self.reading_above() {
+        if reading_above {
             return 17;
         }
-        if self.wrong_readings() {
+        if wrong_readings {
             return 18;
         }
         0

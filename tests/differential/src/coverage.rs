@@ -1,11 +1,12 @@
 //! How often each refusal of a file and each branch of 01's steps was reached; list_coverage.rs
-//! counts for the lists of 02, and ends_coverage.rs for the ends of lines. A run in which one was
-//! never reached has shown too little, and fails.
+//! counts for the lists of 02, ends_coverage.rs for the ends of lines, and marks_coverage.rs for
+//! their marks. A run in which one was never reached has shown too little, and fails.
 
 use crate::balance::Balance;
 use crate::branches::{Branch, NAMES};
 use crate::ends_coverage::EndsCoverage;
 use crate::list_coverage::ListCoverage;
+use crate::marks_coverage::MarksCoverage;
 use crate::park::{Line, Park, MONTH_HOURS};
 use crate::steps::{Consumption, Generation, Lines, Source, Working};
 
@@ -20,6 +21,8 @@ pub struct Coverage {
     /// Ends of lines in files.
     pub ends: EndsCoverage,
     pub lists: ListCoverage,
+    /// Marks in generated files and lists.
+    pub marks: MarksCoverage,
 }
 
 /// Whether rounding meets a half.
@@ -30,7 +33,8 @@ fn half(numerator: i128, denominator: i128) -> bool {
 impl Coverage {
     pub fn new() -> Coverage {
         let (ends, lists) = (EndsCoverage::default(), ListCoverage::default());
-        Coverage { refusals: [0; 25], branches: vec![0; NAMES.len()], ends, lists }
+        let marks = MarksCoverage::default();
+        Coverage { refusals: [0; 25], branches: vec![0; NAMES.len()], ends, lists, marks }
     }
 
     /// Counts a reply: 0 for an accepted file.
@@ -221,8 +225,8 @@ impl Coverage {
         });
         let branches = NAMES.iter().map(|name| name.to_string()).zip(self.branches.iter().copied());
         let mut missing = Vec::new();
-        let ends = self.ends.counts("file");
-        for (name, count) in refusals.chain(branches).chain(ends).chain(self.lists.counts()) {
+        let lines = self.ends.counts("file").chain(self.lists.counts()).chain(self.marks.counts());
+        for (name, count) in refusals.chain(branches).chain(lines) {
             println!("{count:>10}  {name}");
             if count == 0 {
                 missing.push(name);

@@ -21,5 +21,8 @@ pub fn run(tester: &mut Tester, seed: u64, lists: u64, sample: u64) {
             tester.print_made(&name, &numbers);
         }
         tester.list(&format!("seed {seed}, damaged list {index}"), &damaged);
+        for numbers in [&numbers, &damaged] {
+            tester.coverage.marks.list(numbers);
+        }
     }
 }

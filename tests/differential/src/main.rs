@@ -1,8 +1,9 @@
 //! The differential test program of the park bill: a calculator written from papers 01 and 02 (R-1
-//! and R-2) alone, held against the product's four calls and its program parkbill.
+//! to R-3) alone, held against the product's four calls and its program parkbill.
 //!
 //! - `park_tests` runs the named cases, the example files, the refusals, the sweeps and the generated
-//!   files, and for lists of a park's numbers the named ones, refusals, limits and generated ones;
+//!   files, and for lists of a park's numbers the named ones, refusals, limits and generated ones,
+//!   and for both the named marks;
 //! - `park_tests self-test` holds this program to finding injected mistakes;
 //! - `park_tests file PATH ...` compares given files, such as those of ./failures;
 //! - `park_tests list PATH ...` compares given lists, such as those of ./failures.
@@ -34,14 +35,17 @@ mod list_damage;
 mod list_limits;
 mod list_refusals;
 mod list_run;
+mod marks_coverage;
 mod mistakes;
 mod mock;
 mod mock_encode;
 mod mock_ends;
+mod mock_marks;
 mod mock_steps;
 mod named;
 mod named_ends;
 mod named_lists;
+mod named_marks;
 mod park;
 mod parks;
 mod product;
@@ -121,6 +125,7 @@ fn run_tests() -> bool {
     let mut tester = Tester::new(&product, Failures::Saved(in_package("failures")));
     timed("named cases", &mut tester, named::run);
     timed("named lists", &mut tester, named_lists::run);
+    timed("named marks", &mut tester, named_marks::run);
     timed("examples", &mut tester, run_examples);
     timed("refusals", &mut tester, refusals::run);
     timed("refusals of lists", &mut tester, list_refusals::run);

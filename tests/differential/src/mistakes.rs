@@ -20,7 +20,6 @@ mistakes! {
     LinesBeforeSites,
     HighestUnfedSite,
     March744Hours,
-    MarkFiveAccepted,
     NightAboveGeneratedAccepted,
     ReadingWithoutMeterAccepted,
     LineBackRefused,
@@ -43,6 +42,14 @@ mistakes! {
     FormerEndsBilled,
     FormerEndsPrinted,
     FormerEndsMade,
+    // Refusing: the meter mark.
+    MarkFourAccepted,
+    MarkFiveAccepted,
+    MarkTwoRefused,
+    MarkSixRefused,
+    MarksAboveSevenAccepted,
+    MarkByLowestDigits,
+    MarkAfterReadings,
     // The calls.
     PlaceLeftUnwritten,
     SiteTakenAsByte,
@@ -98,6 +105,7 @@ mistakes! {
     EerpNarrowed,
     PriceTakenAsThreeBytes,
     EndsTakenAsTwoBytes,
+    MarkTakenAsTwoBytes,
     ReadingsTakenAsSigned,
     // Making a file: its bytes.
     VersionTwoWritten,

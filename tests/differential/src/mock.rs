@@ -1,7 +1,7 @@
 //! A second path, apart from the calculator, that stands in for the product: it reads raw bytes,
 //! gathers all breaches of 01's table and takes the first. Its rules for the ends of lines are in
-//! mock_ends.rs, its steps in mock_steps.rs, and its making of files in mock_encode.rs. It can be
-//! told to make one mistake.
+//! mock_ends.rs, that for their marks in mock_marks.rs, its steps in mock_steps.rs, and its making
+//! of files in mock_encode.rs. It can be told to make one mistake.
 
 use std::io;
 
@@ -113,7 +113,6 @@ impl Mock {
         let mark = line[2];
         let [active, reactive, generated, night] = [5, 9, 13, 17].map(|offset| at(line, offset, 4));
         let [above, network, out_of_order] = self.ends_breached(line[0], line[1], sites);
-        let mark_five = mark == 5 && self.makes(Mistake::MarkFiveAccepted);
         let night_above = night > generated && !self.makes(Mistake::NightAboveGeneratedAccepted);
         let unmetered = [(1, reactive), (2, generated), (4, night)]
             .iter()
@@ -124,12 +123,13 @@ impl Mock {
             (14, above),
             (23, network),
             (24, out_of_order),
-            (15, !([0, 1, 2, 3, 6, 7].contains(&mark) || mark_five)),
+            (15, self.mark_breached(mark)),
             (16, !(1..=5_000).contains(&at(line, 3, 2))),
             (17, active.max(reactive).max(generated).max(night) > most),
             (18, unmetered || night_above),
         ];
         self.misplace_ends(&mut rows);
+        self.misplace_mark(&mut rows);
         rows.into_iter().filter(|(_, breached)| *breached).map(|(number, _)| number)
     }
 

@@ -42,6 +42,7 @@ impl Mock {
         match (self.0, field) {
             (Some(Mistake::PriceTakenAsThreeBytes), (0, 3)) => number & 0xFF_FFFF,
             (Some(Mistake::EndsTakenAsTwoBytes), (2, 0 | 1)) => (number & 0xFFFF).min(most),
+            (Some(Mistake::MarkTakenAsTwoBytes), (2, 2)) => (number & 0xFFFF).min(most),
             (Some(Mistake::ReadingsTakenAsSigned), (2, 4..)) => (number as i32).max(0) as u32,
             _ if self.narrowed() == Some(field) => number & most,
             _ => number.min(most),

@@ -1,7 +1,7 @@
 //! The named cases of 01 ("Park Alder, and its neighbours"), starred and unstarred, and a few of
-//! "Shortcuts the annex forbids"; those of 02, R-2, are in named_ends.rs. Every expected value is
-//! written by hand from the paper, and is held against the calculator as well as against the
-//! product.
+//! "Shortcuts the annex forbids"; those of 02 are in named_ends.rs and named_marks.rs.
+//! Every expected value is written by hand from the paper, and is held against the calculator as
+//! well as against the product.
 
 use crate::balance::balance;
 use crate::calculator::{bill_park, bill_site, check, printed, Refusal};

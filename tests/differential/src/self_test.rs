@@ -6,15 +6,15 @@ use crate::failures::Failures;
 use crate::mistakes::{Mistake, ALL};
 use crate::mock::Mock;
 use crate::{generated_run, list_limits, list_refusals, list_run};
-use crate::{named, named_lists, refusals, sweeps};
+use crate::{named, named_lists, named_marks, refusals, sweeps};
 
 /// Files generated for each mistake.
 const FILES: u64 = 5_000;
 /// Lists generated for each mistake.
 const LISTS: u64 = 3_000;
 
-/// The parts of the tests: four for files, four for lists.
-const PARTS: [fn(&mut Tester, u64); 8] = [
+/// The parts of the tests: four for files, four for lists, one for both.
+const PARTS: [fn(&mut Tester, u64); 9] = [
     |tester, _| named::run(tester),
     |tester, _| refusals::run(tester),
     |tester, _| sweeps::run(tester),
@@ -23,6 +23,7 @@ const PARTS: [fn(&mut Tester, u64); 8] = [
     |tester, _| list_refusals::run(tester),
     |tester, _| list_limits::run(tester),
     |tester, seed| list_run::run(tester, seed, LISTS, 30),
+    |tester, _| named_marks::run(tester),
 ];
 
 /// In how many files and lists each part of the tests finds a difference.
@@ -38,7 +39,8 @@ fn differences(mistake: Option<Mistake>, seed: u64) -> [u64; PARTS.len()] {
 /// Whether the test program passes its own test.
 pub fn run(seed: u64) -> bool {
     println!("files with differences in the named cases, refusals, sweeps and generated files,");
-    println!("and lists with differences in the named lists, refusals, limits and generated lists");
+    println!("lists with differences in the named lists, refusals, limits and generated lists,");
+    println!("and files and lists with differences in the named marks");
     let sound = differences(None, seed);
     println!("{sound:>6?}  no mistake");
     let mut unfound = 0;

@@ -1,0 +1,26 @@
+//! The second path's rule for the meter mark (02, R-3): it lists those that may be.
+
+use crate::mistakes::Mistake;
+use crate::mock::Mock;
+
+impl Mock {
+    /// Whether a mark breaks rule 15.
+    pub fn mark_breached(&self, mark: u8) -> bool {
+        match self.0 {
+            Some(Mistake::MarkFourAccepted) if mark == 4 => false,
+            Some(Mistake::MarkFiveAccepted) if mark == 5 => false,
+            Some(Mistake::MarksAboveSevenAccepted) if mark > 7 => false,
+            Some(Mistake::MarkTwoRefused) if mark == 2 => true,
+            Some(Mistake::MarkSixRefused) if mark == 6 => true,
+            Some(Mistake::MarkByLowestDigits) => matches!(mark & 7, 4 | 5),
+            _ => !matches!(mark, 0 | 1 | 2 | 3 | 6 | 7),
+        }
+    }
+
+    /// Orders the rows of a line, from 14 on, as a mistake does with that of the mark.
+    pub fn misplace_mark(&self, rows: &mut [(u64, bool); 7]) {
+        if self.makes(Mistake::MarkAfterReadings) {
+            rows[3..].rotate_left(1);
+        }
+    }
+}
