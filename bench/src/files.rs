@@ -71,6 +71,21 @@ impl Files {
         Files::new(bytes, 1, 64)
     }
 
+    /// One site and one line, with tangents around 2,000 and around 99,999; one that needs 17 bits, the
+    /// largest quotient, that of no active energy, and one that is rounded to 0.
+    pub fn of_tangents() -> Files {
+        let mut bytes = Vec::new();
+        let around = |limit: u32| (limit - 3)..=(limit + 3);
+        let halves = around(4_000).chain(around(200_000)).map(|reactive| (2_000, reactive));
+        let ends = [(1_000, 65_536), (1, MOST_READING), (0, MOST_READING), (MOST_READING, 1)];
+        for (active, reactive) in halves.chain(ends) {
+            bytes.extend(header(1, 1, 1, 2_000_000, MONTH_HOURS[0]));
+            add_site(&mut bytes, 1_000_000, [1, 20_000, 20_000, 1_000]);
+            add_line(&mut bytes, (0, 1), REACTIVE_METER, MOST_EERP, [active, reactive, 0, 0]);
+        }
+        Files::new(bytes, 1, 1)
+    }
+
     fn new(bytes: Vec<u8>, sites: u8, lines: u8) -> Files {
         let (site_count, line_count) = (sites as usize, lines as usize);
         let file_len = HEADER_BYTES + SITE_BYTES * site_count + LINE_BYTES * line_count;

@@ -8,9 +8,9 @@
 //!   one codegen unit, no target-cpu). Neither is inlined into the loop that times it.
 //! - Both make the same checks: every file is first put to both, as it is, with bytes changed, cut
 //!   short and too long, and they must leave the same numbers in every call; so must files with all
-//!   numbers at their limits. The lists of the files' numbers are put to both in the same way, also
-//!   with numbers too large for their fields, and both must make the same files. Every refusal must
-//!   be among the answers.
+//!   numbers, or tangents, at their limits. The lists of the files' numbers are put to both in the
+//!   same way, also with numbers too large for their fields, and both must make the same files.
+//!   Every refusal must be among the answers.
 //! - The plain Rust is safe Rust, written to be fast: one quick test of a line, with the rules by
 //!   number for a bad file alone; the lines of one site picked out as a set of bits; sums of 32 bits
 //!   and what follows from a meter mark looked up; a second walk over the unmetered transits alone,
@@ -69,9 +69,9 @@ fn assert_agree(timed: &[&Files]) {
     agree_lists::assert_alder();
     let at_limits = [(1, 1), (1, 64), (2, 8), (3, 64), (16, 16), (16, 64)]
         .map(|(sites, lines)| Files::of_shape(Random::to_the_limits(SEED + 5), sites, lines));
-    let most = Files::of_most();
+    let (most, tangents) = (Files::of_most(), Files::of_tangents());
     let (mut count, mut of_files, mut of_lists) = (0, 0, 0);
-    for files in timed.iter().copied().chain(&at_limits).chain([&most]) {
+    for files in timed.iter().copied().chain(&at_limits).chain([&most, &tangents]) {
         count += files.count();
         of_files |= agree::assert_agree(files, SEED + 6);
         of_lists |= agree_lists::assert_agree(files, SEED + 7);

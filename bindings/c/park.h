@@ -15,7 +15,8 @@ extern "C" {
 /* Checks a file. */
 uint64_t park_check(const uint8_t *file, size_t file_len, uint64_t *place);
 
-/* Bills one site, counted from 1: consumption, tg, settled, cut, generation, Pc, Pg, P2, P3, total, reason. */
+/* Bills one site, counted from 1: consumption, tg (thousandths, up to 99,999), settled, cut, generation, Pc, Pg, P2, P3,
+   total, reason. */
 uint64_t park_bill_site(const uint8_t *file, size_t file_len, uint64_t bill[11], uint64_t site,
                         uint64_t *place);
 

@@ -2,7 +2,8 @@
 
 #![no_std]
 
-/// consumption, tg, settled, cut, generation, Pc, Pg, P2, P3, total, reason.
+/// consumption, tg (thousandths, up to 99,999), settled, cut, generation, Pc, Pg, P2, P3, total,
+/// reason.
 pub type Bill = [u64; 11];
 
 /// The rule that refuses a file, a list or a call, and the site or line it speaks of, or 0.

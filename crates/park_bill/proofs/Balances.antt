@@ -21,7 +21,7 @@ use Rattle.park_charge.specs.Rounding.{rounded, rounded-upper, rounded-lower}
 use Rattle.park_charge.specs.Charge.{lossCharge}
 use Rattle.park_sums.specs.Flows.{lossIn, lossOut}
 use Rattle.park_sums.specs.Sums.{overSites, sumBy, EachSite}
-use Rattle.park_bill.specs.Bill.{bill, tangentOf, touching, weightedSum}
+use Rattle.park_bill.specs.Bill.{bill, tangentOf, touching, weightedAt, weightedSum}
 use Rattle.park_sums.specs.Inner.Rows.{when}
 use Rattle.park_bill.specs.Balance.{Measured, MeasuredBetween, comingIn, goingBack, networkEnergy, Balance}
 use Rattle.park_sums.proofs.Sums.{sumBy-add, sumBy-cong, sumBy-select}
@@ -153,7 +153,7 @@ module _ (p : Park) (kept : Every (KeptLine (p .header .sites)) (p .lines)) (mea
 
   -- each site: settled and out are in and cut
   site-split : (k : ℕ) → settled (sum-of k) + sumBy (lossOut (tangents k)) (transits k (p .lines)) ≡ sumBy lossIn (inputs k (p .lines)) + cut (sum-of k)
-  unfolding weightedSum
+  unfolding weightedAt
   site-split k = settled-balance (sumBy lossIn (inputs k (p .lines))) (sumBy (lossOut (tangents k)) (transits k (p .lines)))
 
   sites-split : overSites (λ (k : ℕ). settled (sum-of k)) n + overSites (λ (k : ℕ). sumBy (lossOut (tangents k)) (transits k (p .lines))) n ≡ overSites (λ (k : ℕ). sumBy lossIn (inputs k (p .lines))) n + overSites (λ (k : ℕ). cut (sum-of k)) n

@@ -2,6 +2,7 @@ pub mod Links
 pub mod Sites
 pub mod Starts
 pub mod Money
+pub mod Former
 pub mod Refusals
 pub mod Slices
 pub mod Billed

@@ -2,4 +2,5 @@ pub mod Bill
 pub mod Reply
 pub mod Billed
 pub mod Balance
+pub mod Former
 pub mod Inner

@@ -1,3 +1,4 @@
 pub mod Product
 mod Signs
 pub mod Bounds
+pub mod Former

@@ -3,3 +3,4 @@ pub mod Flow
 pub mod Losses
 pub mod Generation
 pub mod Charge
+pub mod Former

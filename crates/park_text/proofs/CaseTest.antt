@@ -18,23 +18,24 @@ use Rattle.park_format.specs.declared.line.Line.{Line}
 use Rattle.park_charge.specs.Rounding.{rounded}
 use Rattle.park_charge.specs.Flow.{estimatedOut, inflow, outflow, tangent}
 use Rattle.park_charge.specs.Losses.{aboveZero, cut}
+use Rattle.park_charge.specs.Former.{formerSurcharge, formerTangent}
 use Rattle.park_charge.specs.Generation.{computedGeneration}
-use Rattle.park_charge.specs.Charge.{computedCharge, discount, lossCharge, reason, surcharge, surchargeFactor}
+use Rattle.park_charge.specs.Charge.{computedCharge, discount, factorAt, lossCharge, reason, surcharge, surchargeFactor}
 use Rattle.park_sums.specs.Sums.{allOf, overSites, sumBy, EachSite}
 use Rattle.park_bill.specs.Balance.{MeasuredBetween}
-use Rattle.park_bill.specs.Bill.{consumptionOf, generationCharge, generationOf, tangentOf, weightedSum}
+use Rattle.park_bill.specs.Bill.{consumptionAt, generationCharge, generationOf, tangentOf, weightedAt}
 use Rattle.park_format.specs.Call.{refusalWith}
 use Rattle.park_bill.specs.Reply.{billsOf, callRefusal}
 use Rattle.park_text.specs.Answer.{answerTo}
 use Rattle.park_text.specs.Ascii.{ascii}
 use Rattle.park_text.specs.Text.{billText, decimal, digitsWithin, fieldsText, namesText, refusalText, siteText, sitesText}
 use Rattle.park_text.specs.Cases.{accepts, agree, AllCases, Case, cases, equal, holds, measuredLine, numbers, same, Says, Whether}
-use Rattle.park_text.specs.Cases.Case.{balanceCase, chargeCase, fileCase, printed, reasonCase, surchargeCase, tangentCase, wholeBill}
+use Rattle.park_text.specs.Cases.Case.{balanceCase, chargeCase, estimateCase, fileCase, formerCase, printed, reasonCase, surchargeCase, tangentCase, wholeBill}
 use Rattle.park_bill.proofs.Balances.{over-cong, over-none, over-zero}
 
 -- the test
 all-hold : allOf holds cases ≡ true
-unfolding holds bytesFor bytesOf fileOf joined fieldsAt numberAt headerOf lineAt lineOf listOf parkOf select siteAt siteOf each fileRules firstBroken headerRules inputRules lineRules mostHours refusal rulesWith siteRules rounded inflow estimatedOut outflow tangent aboveZero cut computedGeneration computedCharge discount lossCharge reason surcharge surchargeFactor allOf sumBy consumptionOf generationCharge generationOf tangentOf weightedSum billsOf callRefusal refusalWith overSites answerTo decimal digitsWithin billText namesText sitesText siteText fieldsText refusalText
+unfolding holds bytesFor bytesOf fileOf joined fieldsAt numberAt headerOf lineAt lineOf listOf parkOf select siteAt siteOf each fileRules firstBroken headerRules inputRules lineRules mostHours refusal rulesWith siteRules rounded inflow estimatedOut outflow tangent aboveZero cut computedGeneration formerTangent formerSurcharge computedCharge discount lossCharge reason factorAt surcharge surchargeFactor allOf sumBy consumptionAt generationCharge generationOf tangentOf weightedAt billsOf callRefusal refusalWith overSites answerTo decimal digitsWithin billText namesText sitesText siteText fieldsText refusalText
 all-hold = refl
 
 -- what each part of the test means
@@ -115,7 +116,9 @@ entry (wholeBill file list settled network) e =
     (accepts-is (refusal file) (a .0), (same-is _ list (b .0), (eqb-true _ settled (c .0), equal-is _ (pos network) (c .1))))
 entry (fileCase file bytes) e = same-is file bytes e
 entry (printed file text) e = same-is _ (ascii text) e
+entry (formerCase file k list) e = same-is _ list e
 entry (tangentCase wq wp tg) e = eqb-true _ tg e
+entry (estimateCase tg wp out) e = eqb-true _ out e
 entry (surchargeCase tg pc p2) e = eqb-true _ p2 e
 entry (chargeCase product pc) e = eqb-true _ pc e
 entry (reasonCase c g r) e = eqb-true _ r e

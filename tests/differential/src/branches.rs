@@ -1,6 +1,7 @@
 //! The branches of 01's steps, of its demand 3, of a park's shape, of its limits and of making a
-//! file (02, R-1) that a run must reach, and the ends of lines (02, R-2) that it must meet in files
-//! and in lists, each with its name in the coverage.
+//! file (02, R-1) that a run must reach; the ends of lines (02, R-2) that it must meet in files and
+//! in lists; and the high tangents (02, R-4) that its generated files and lists must meet; each with
+//! its name in the coverage.
 
 macro_rules! branches {
     ($kind:ident, $names:ident: $($branch:ident $name:literal,)*) => {
@@ -23,7 +24,6 @@ branches! {
     TangentLow "step 2: tg 1 to 250",
     TangentMiddle "step 2: tg 251 to 800",
     TangentHigh "step 2: tg 801 to 1999",
-    TangentLimited "step 2: tg limited to 2000",
     TangentHalf "step 2: half",
     TransitMetered "step 3: transit metered",
     TransitEstimated "step 3: transit estimated, tg below 800",
@@ -147,4 +147,27 @@ branches! {
     MarkThenOutOfOrder "refusal 15, a later line 24",
     LineBack "accepted, a line back to the network",
     NextSite "accepted, a line from a site to the next",
+}
+
+branches! {
+    Tangents, TANGENTS_NAMES:
+    OfNothing "step 2: tg 800 as WP0 is 0, WQ0 is not",
+    BelowTwo "step 2: tg 1,999",
+    Two "step 2: tg 2,000",
+    AboveTwo "step 2: tg 2,001",
+    BelowTwoBytes "step 2: tg 2,002 to 65,535",
+    AboveTwoBytes "step 2: tg 65,536 to 99,997",
+    BelowMost "step 2: tg 99,998",
+    Most "step 2: tg 99,999, not limited",
+    JustLimited "step 2: tg limited from 100,000",
+    Limited "step 2: tg limited from more than 100,000",
+    HighHalf "step 2: half, tg above 2,000",
+    HighTransit "step 3: transit estimated, tg 2,001 to 99,998",
+    MostTransit "step 3: transit estimated, tg 99,999",
+    HighCut "step 5: site cut at zero, tg above 2,000",
+    HighPower "step 7: reason 1, tg above 2,000",
+    HighLow "step 7: reason 2, tg above 2,000",
+    TwoSurcharge "step 10: P2 not limited, tg 2,000",
+    HighSurcharge "step 10: P2 limited, tg 2,001 to 99,998",
+    MostSurcharge "step 10: P2 limited, tg 99,999",
 }

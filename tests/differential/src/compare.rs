@@ -1,6 +1,7 @@
 //! One file, asked of the calculator and of the product: the three calls of 01 with sites and
-//! list lengths on both sides of what is right, the loss balance, what the program prints, and the
-//! file made anew from its numbers. Lists of numbers are compared in list_compare.rs.
+//! list lengths on both sides of what is right, the loss balance, the bills of before R-4, what the
+//! program prints, and the file made anew from its numbers. Lists of numbers are compared in
+//! list_compare.rs.
 
 use std::fmt::{Arguments, Debug};
 
@@ -9,6 +10,7 @@ use crate::calculator::{self, Bill, Refusal};
 use crate::coverage::Coverage;
 use crate::failures::{Case, Failures};
 use crate::former;
+use crate::former_tangents;
 use crate::park::Park;
 use crate::product::{Product, Reply};
 use crate::rules::accepted_park;
@@ -42,6 +44,8 @@ pub struct Tester<'p> {
 struct Accepted {
     park: Park,
     bills: Vec<Bill>,
+    /// The bills of before R-4.
+    former_bills: Vec<Bill>,
 }
 
 pub fn reply_to<T>(answer: &Result<T, Refusal>) -> Reply {
@@ -89,8 +93,10 @@ impl<'p> Tester<'p> {
         let one_by_one = self.compare_sites(lent, &expected);
         let at_once = self.compare_lists(lent, &expected);
         if let Ok(accepted) = &expected {
-            self.compare_balance(accepted, &one_by_one);
-            self.compare_balance(accepted, &at_once);
+            for bills in [&one_by_one, &at_once] {
+                self.compare_balance(accepted, bills);
+                self.same_bills_as_before(&accepted.former_bills, bills);
+            }
             self.coverage.balance(balance(&accepted.park, &at_once));
         }
         self.compare_remade(lent, expected.err());
@@ -141,7 +147,8 @@ impl<'p> Tester<'p> {
             self.coverage.site(&park, &working);
             bills.push(working.bill());
         }
-        Ok(Accepted { park, bills })
+        let former_bills = former_tangents::bills(&park);
+        Ok(Accepted { park, bills, former_bills })
     }
 
     fn compare_check(&mut self, file: &[u8], expected: &Result<Accepted, Refusal>) {

@@ -1,6 +1,7 @@
 //! How often each refusal of a file and each branch of 01's steps was reached; list_coverage.rs
-//! counts for the lists of 02, ends_coverage.rs for the ends of lines, and marks_coverage.rs for
-//! their marks. A run in which one was never reached has shown too little, and fails.
+//! counts for the lists of 02, ends_coverage.rs for the ends of lines, marks_coverage.rs for their
+//! marks, and tangents_coverage.rs for high tangents. A run in which one was never reached has shown
+//! too little, and fails.
 
 use crate::balance::Balance;
 use crate::branches::{Branch, NAMES};
@@ -8,7 +9,8 @@ use crate::ends_coverage::EndsCoverage;
 use crate::list_coverage::ListCoverage;
 use crate::marks_coverage::MarksCoverage;
 use crate::park::{Line, Park, MONTH_HOURS};
-use crate::steps::{Consumption, Generation, Lines, Source, Working};
+use crate::steps::{excess, half, Consumption, Generation, Lines, Source, Working, MOST_TANGENT};
+use crate::tangents_coverage::TangentsCoverage;
 
 /// The refusals that a file can meet, in the order of the table; 0 stands for an accepted one.
 const FILE_REPLIES: [u64; 24] =
@@ -23,18 +25,20 @@ pub struct Coverage {
     pub lists: ListCoverage,
     /// Marks in generated files and lists.
     pub marks: MarksCoverage,
-}
-
-/// Whether rounding meets a half.
-fn half(numerator: i128, denominator: i128) -> bool {
-    2 * (numerator % denominator) == denominator
+    /// High tangents in generated files and lists.
+    pub tangents: TangentsCoverage,
 }
 
 impl Coverage {
     pub fn new() -> Coverage {
-        let (ends, lists) = (EndsCoverage::default(), ListCoverage::default());
-        let marks = MarksCoverage::default();
-        Coverage { refusals: [0; 25], branches: vec![0; NAMES.len()], ends, lists, marks }
+        Coverage {
+            refusals: [0; 25],
+            branches: vec![0; NAMES.len()],
+            ends: EndsCoverage::default(),
+            lists: ListCoverage::default(),
+            marks: MarksCoverage::default(),
+            tangents: TangentsCoverage::default(),
+        }
     }
 
     /// Counts a reply: 0 for an accepted file.
@@ -69,8 +73,7 @@ impl Coverage {
             self.count(Branch::TangentLow, (1..=250).contains(&tangent));
             self.count(Branch::TangentMiddle, (251..=800).contains(&tangent));
             self.count(Branch::TangentHigh, (801..=1_999).contains(&tangent));
-            self.count(Branch::TangentLimited, reactive > 2 * active);
-            self.count(Branch::TangentHalf, half && tangent < 2_000);
+            self.count(Branch::TangentHalf, half && tangent < MOST_TANGENT);
         }
     }
 
@@ -148,12 +151,12 @@ impl Coverage {
     fn other_charges(&mut self, work: &Working, price: i128) {
         let money = &work.charges;
         let charged = money.consumption > 0;
-        let excess = work.consumption.tangent - 250;
+        let excess = excess(work.consumption.tangent);
         let discount = work.site.discount as i128;
         let surcharge = money.consumption * excess * excess;
         let discounted = (money.consumption + money.generation) * discount;
         self.count(Branch::ChargeHalf, half(work.consumption.losses.max(0) * price, 10_000_000));
-        self.count(Branch::SurchargeNone, excess <= 0 && charged);
+        self.count(Branch::SurchargeNone, excess == 0 && charged);
         self.count(Branch::Surcharge, money.surcharge > 0);
         self.count(Branch::SurchargeHalf, excess > 0 && half(surcharge, 1_000_000));
         self.count(Branch::DiscountNone, discount == 0 && charged);
@@ -226,7 +229,7 @@ impl Coverage {
         let branches = NAMES.iter().map(|name| name.to_string()).zip(self.branches.iter().copied());
         let mut missing = Vec::new();
         let lines = self.ends.counts("file").chain(self.lists.counts()).chain(self.marks.counts());
-        for (name, count) in refusals.chain(branches).chain(lines) {
+        for (name, count) in refusals.chain(branches).chain(lines).chain(self.tangents.counts()) {
             println!("{count:>10}  {name}");
             if count == 0 {
                 missing.push(name);

@@ -1,5 +1,5 @@
 //! Random parks that the table of 01 accepts, of all shapes, with values on and near every limit
-//! and with small ones, so that rounding halves and reasons 1 and 2 happen.
+//! and with small ones, so that rounding halves, reasons 1 and 2 and high tangents happen.
 
 use crate::park::{Line, Park, Site, MONTH_HOURS};
 use crate::park::{GENERATED_METER, NIGHT_METER, REACTIVE_METER};
@@ -138,12 +138,22 @@ fn random_reading(random: &mut Random, scale: Scale) -> u64 {
     }
 }
 
-/// WQ: of its own, or a part of WP.
+/// WQ: of its own, a part of WP, or many times WP.
 fn random_reactive(random: &mut Random, scale: Scale, active: u64) -> u64 {
-    match random.index(3) {
-        0 => active * random.between(0, 400) / 1_000,
-        1 => active * random.pick(&[250, 251, 500, 800, 801, 1_000]) / 1_000,
+    match random.index(7) {
+        0 | 1 => active * random.between(0, 400) / 1_000,
+        2 | 3 => active * random.pick(&[250, 251, 500, 800, 801, 1_000]) / 1_000,
+        4 => (active * random_high_tangent(random) / 1_000).min(10_000_000),
         _ => random_reading(random, scale),
+    }
+}
+
+/// A tangent of about 2,000, of about 99,999, or of any size between and a little above.
+fn random_high_tangent(random: &mut Random) -> u64 {
+    match random.index(3) {
+        0 => random.pick(&[1_999, 2_000, 2_000, 2_001]),
+        1 => random.pick(&[99_998, 99_999, 99_999, 100_000]),
+        _ => random.between(2_002, 110_000),
     }
 }
 
@@ -192,7 +202,12 @@ fn make_flows_sensible(random: &mut Random, park: &mut Park) {
     }
     for site in (1..=park.sites.len()).rev() {
         let active = random.between(0, most);
-        let reactive = active * random.between(0, 1_200) / 1_000;
+        let tangent = match random.chance(15) {
+            true => random_high_tangent(random),
+            false => random.between(0, 1_200),
+        };
+        // All sites together stay below the most of a reading.
+        let reactive = (active * tangent / 1_000).min(500_000);
         let generated = random.between(0, most / 2);
         let load = [active, reactive, generated, generated / 3];
         carry(&mut park.lines, site, load);

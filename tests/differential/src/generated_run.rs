@@ -18,6 +18,7 @@ pub fn run(tester: &mut Tester, seed: u64, files: u64, sample: u64) {
             let name = format!("seed {seed}, {kind} file {index}");
             tester.file(&name, file);
             tester.coverage.marks.file(file);
+            tester.coverage.tangents.file(file);
             if sample > 0 && (2 * index + half as u64).is_multiple_of(step) {
                 tester.print(&name, file);
             }

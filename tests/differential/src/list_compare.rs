@@ -8,6 +8,7 @@ use crate::compare::{reply_to, Tester};
 use crate::failures::Case;
 use crate::fields::all_fit;
 use crate::former;
+use crate::former_tangents;
 use crate::list::{list_of_file, HEADER_NUMBERS};
 use crate::park::{line_offset, Header, Park};
 use crate::product::{Reply, UNWRITTEN};
@@ -147,10 +148,13 @@ impl Tester<'_> {
         let reply = self.product.bill_park(made, &mut list);
         self.same(format_args!("the park made"), (accepted, bills.len() as u64), reply);
         self.same(format_args!("the park made, bills"), bills.as_flattened(), &list);
+        let former_bills = former_tangents::bills(park);
+        self.same_bills_as_before(&former_bills, list.as_chunks().0);
         let mut bill = [UNWRITTEN; 11];
         let reply = self.product.bill_site(made, &mut bill, bills.len() as u64);
         self.same(format_args!("last site made"), accepted, reply);
         self.same(format_args!("last site made, bill"), bills.last(), Some(&bill));
+        self.same_bills_as_before(&former_bills[bills.len() - 1..], &[bill]);
     }
 
     /// A refused list that can be written as a file: the file is refused alike.

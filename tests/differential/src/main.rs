@@ -1,5 +1,5 @@
 //! The differential test program of the park bill: a calculator written from papers 01 and 02 (R-1
-//! to R-3) alone, held against the product's four calls and its program parkbill.
+//! to R-4) alone, held against the product's four calls and its program parkbill.
 //!
 //! - `park_tests` runs the named cases, the example files, the refusals, the sweeps and the generated
 //!   files, and for lists of a park's numbers the named ones, refusals, limits and generated ones,
@@ -25,6 +25,7 @@ mod examples;
 mod failures;
 mod fields;
 mod former;
+mod former_tangents;
 mod generate;
 mod generated_run;
 mod list;
@@ -42,10 +43,12 @@ mod mock_encode;
 mod mock_ends;
 mod mock_marks;
 mod mock_steps;
+mod mock_tangents;
 mod named;
 mod named_ends;
 mod named_lists;
 mod named_marks;
+mod named_tangents;
 mod park;
 mod parks;
 mod product;
@@ -56,6 +59,7 @@ mod self_test;
 mod shapes;
 mod steps;
 mod sweeps;
+mod tangents_coverage;
 
 use std::env;
 use std::fs;

@@ -1,7 +1,7 @@
 //! A second path, apart from the calculator, that stands in for the product: it reads raw bytes,
 //! gathers all breaches of 01's table and takes the first. Its rules for the ends of lines are in
-//! mock_ends.rs, that for their marks in mock_marks.rs, its steps in mock_steps.rs, and its making
-//! of files in mock_encode.rs. It can be told to make one mistake.
+//! mock_ends.rs, that for their marks in mock_marks.rs, its steps in mock_steps.rs and
+//! mock_tangents.rs, and its making of files in mock_encode.rs. It can be told to make one mistake.
 
 use std::io;
 
@@ -50,6 +50,7 @@ impl Mock {
         found.extend(least.map(|site| (5, site as u64, 19)));
         match found.into_iter().min_by_key(|(stage, place, _)| (*stage, *place)) {
             None if self.makes(Mistake::RefusesEverything) => (9, 0),
+            None if self.makes(Mistake::TangentRefusedAboveLimit) => self.tangent_refusal(file),
             None => (0, 0),
             Some((_, place, number @ (14..=18 | 23 | 24)))
                 if self.makes(Mistake::LinePlaceFromZero) =>
@@ -151,7 +152,8 @@ impl Product for Mock {
             refusal = (20, 0);
         }
         if refusal.0 == 0 {
-            *bill = self.bills(file)[site as usize - 1];
+            let right = self.bills(file)[site as usize - 1];
+            *bill = self.former_tangent_if(Mistake::FormerTangentOfSite, right);
         } else if self.makes(Mistake::BillWrittenOnRefusal) {
             *bill = [0; 11];
         }
@@ -172,8 +174,10 @@ impl Product for Mock {
             }
             return (self.reply(refusal), 0);
         }
-        for (place, number) in list.iter_mut().zip(self.bills(file).as_flattened()) {
-            *place = *number;
+        let in_park = |bill| self.former_tangent_if(Mistake::FormerTangentInPark, bill);
+        let numbers = self.bills(file).into_iter().flat_map(in_park);
+        for (place, number) in list.iter_mut().zip(numbers) {
+            *place = number;
         }
         if self.makes(Mistake::WritesPastTheBills) && list.len() > least {
             list[least] = 0;
@@ -188,7 +192,7 @@ impl Product for Mock {
 
     fn printed(&self, file: &[u8]) -> io::Result<Vec<u8>> {
         let mut text = match self.former_if(Mistake::FormerEndsPrinted, self.refusal(file)) {
-            (0, _) => table(&self.bills(file)),
+            (0, _) => table(self.bills(file).into_iter().map(|bill| self.printed_bill(bill))),
             (number, place) => format!("refused,{number},{place}\n"),
         };
         if self.makes(Mistake::LastNewlineMissing) {
@@ -198,11 +202,11 @@ impl Product for Mock {
     }
 }
 
-fn table(bills: &[Bill]) -> String {
+fn table(bills: impl Iterator<Item = Bill>) -> String {
     let names = "site,consumption,tg,settled,cut,generation,pc,pg,p2,p3,total,reason\n";
-    let row = |(site, bill): (usize, &Bill)| {
+    let row = |(site, bill): (usize, Bill)| {
         let numbers: Vec<String> = bill.iter().map(u64::to_string).collect();
         format!("{},{}\n", site + 1, numbers.join(","))
     };
-    names.to_string() + &bills.iter().enumerate().map(row).collect::<String>()
+    names.to_string() + &bills.enumerate().map(row).collect::<String>()
 }

@@ -1,32 +1,34 @@
 //! The named cases of 01 ("Park Alder, and its neighbours"), starred and unstarred, and a few of
-//! "Shortcuts the annex forbids"; those of 02 are in named_ends.rs and named_marks.rs.
-//! Every expected value is written by hand from the paper, and is held against the calculator as
-//! well as against the product.
+//! "Shortcuts the annex forbids"; those of 02 are in named_ends.rs, named_marks.rs and
+//! named_tangents.rs. Every expected value is written by hand from the paper, and is held
+//! against the calculator as well as against the product.
 
 use crate::balance::balance;
 use crate::calculator::{bill_park, bill_site, check, printed, Refusal};
 use crate::compare::Tester;
 use crate::list::site;
 use crate::named_ends;
+use crate::named_tangents;
 use crate::park::Park;
-use crate::parks::{alder, alder_cut, one_line, small_park, ALDER_FILE, ALDER_PRINTED};
+use crate::parks::{alder, alder_cut, one_line, small_park};
+use crate::parks::{ALDER_CUT_PRINTED, ALDER_FILE, ALDER_PRINTED};
 use crate::product::{Reply, UNWRITTEN};
 
 // Places of the eleven numbers.
-const CONSUMPTION: usize = 0;
-const TANGENT: usize = 1;
-const SETTLED: usize = 2;
-const CUT: usize = 3;
+pub const CONSUMPTION: usize = 0;
+pub const TANGENT: usize = 1;
+pub const SETTLED: usize = 2;
+pub const CUT: usize = 3;
 const GENERATION: usize = 4;
-const PC: usize = 5;
+pub const PC: usize = 5;
 const PG: usize = 6;
-const P2: usize = 7;
+pub const P2: usize = 7;
 const P3: usize = 8;
-const TOTAL: usize = 9;
-const REASON: usize = 10;
+pub const TOTAL: usize = 9;
+pub const REASON: usize = 10;
 
 /// Holds a site's numbers, named by their places, against both; then everything about the file.
-fn expect_numbers(
+pub fn expect_numbers(
     tester: &mut Tester,
     name: &str,
     park: &Park,
@@ -52,6 +54,21 @@ fn expect_numbers(
     tester.print(name, &file);
 }
 
+/// Holds what is printed for a park, and every number in it, against both; then everything about the
+/// file.
+pub fn expect_printed(tester: &mut Tester, name: &str, park: &Park, text: &str) {
+    let file = park.to_file();
+    tester.same(format_args!("calculator, printed"), text, &printed(&file));
+    let bytes = tester.product.printed(&file).unwrap_or_default();
+    tester.same(format_args!("product, printed"), text.as_bytes(), &bytes);
+    for row in text.lines().skip(1) {
+        let numbers = row.split(',').map(|number| number.parse().expect("a number"));
+        let numbers: Vec<u64> = numbers.collect();
+        let places: Vec<(usize, u64)> = numbers[1..].iter().copied().enumerate().collect();
+        expect_numbers(tester, name, park, numbers[0], &places);
+    }
+}
+
 /// Holds the reply to a check against both, `None` for accepted; then everything about the file.
 pub fn expect_reply(tester: &mut Tester, name: &str, file: &[u8], refusal: Option<(u64, u64)>) {
     let right = match refusal {
@@ -74,6 +91,7 @@ pub fn run(tester: &mut Tester) {
     reasons(tester);
     refusals(tester);
     named_ends::files(tester);
+    named_tangents::run(tester);
     forbidden_shortcuts(tester);
     generations(tester);
     extremes(tester);
@@ -82,30 +100,25 @@ pub fn run(tester: &mut Tester) {
 fn alders(tester: &mut Tester) {
     let file = alder().to_file();
     tester.same(format_args!("Alder's bytes"), &ALDER_FILE[..], &file[..]);
-    let text = ALDER_PRINTED.to_string();
-    tester.same(format_args!("calculator, printed"), text.clone(), printed(&ALDER_FILE));
-    let bytes = tester.product.printed(&ALDER_FILE).unwrap_or_default();
-    tester.same(format_args!("product, printed"), text.as_bytes(), &bytes[..]);
     let mut list = [UNWRITTEN; 22];
     tester.product.bill_park(&ALDER_FILE, &mut list);
     let bills = [0, 11].map(|start| list[start..start + 11].try_into().expect("eleven"));
     let energies = balance(&alder(), &bills).map(|balance| (balance.settled, balance.network));
     tester.same(format_args!("Alder's energies"), Some((22_746_000, 22_746_000)), energies);
-    tester.file("Alder", &ALDER_FILE);
-    let first = [(SETTLED, 0), (CUT, 7_930_000), (TANGENT, 0)];
-    expect_numbers(tester, "Alder, WQ 40,000 on line 2", &alder_cut(), 1, &first);
-    let second = [(SETTLED, 30_676_000), (CUT, 0)];
-    expect_numbers(tester, "Alder, WQ 40,000 on line 2", &alder_cut(), 2, &second);
+    expect_printed(tester, "Alder", &alder(), ALDER_PRINTED);
+    expect_printed(tester, "Alder, WQ 40,000 on line 2", &alder_cut(), ALDER_CUT_PRINTED);
 }
 
 fn tangents(tester: &mut Tester) {
-    let cases = [("WQ0 1, WP0 2,000", 2_000, 1, 1), ("WP0 0", 0, 5_000, 800)];
+    let cases = [
+        ("WQ0 1, WP0 2,000", 2_000, 1, 1),
+        ("WP0 0", 0, 5_000, 800),
+        ("WQ0 5,000, WP0 2,000", 2_000, 5_000, 2_500),
+    ];
     for (name, active, reactive, tangent) in cases {
         let park = one_line(500_000, 669, active, reactive);
         expect_numbers(tester, name, &park, 1, &[(TANGENT, tangent)]);
     }
-    let park = one_line(500_000, 669, 2_000, 5_000);
-    expect_numbers(tester, "WQ0 5,000, WP0 2,000", &park, 1, &[(TANGENT, 2_000)]);
 }
 
 fn money(tester: &mut Tester) {
@@ -230,6 +243,7 @@ fn extremes(tester: &mut Tester) {
     let full = [0, 1, 7, 5_000, 1_000_000, 10_000_000, 10_000_000, 10_000_000];
     let park = small_park(2_000_000, &[[1_000_000, 1, 0, 0, 1_000]], &[full; 64]);
     let numbers = [
+        (TANGENT, 10_000),
         (SETTLED, 3_200_000_000_000),
         (GENERATION, 6_400_000_000),
         (PC, 640_000_000_000),

@@ -11,6 +11,13 @@ site,consumption,tg,settled,cut,generation,pc,pg,p2,p3,total,reason
 2,8000,533,5476000,0,0,273800,0,21928,27380,268348,0
 ";
 
+/// What parkbill prints for Alder with WQ 40,000 on line 2, since R-4 (02).
+pub const ALDER_CUT_PRINTED: &str = "\
+site,consumption,tg,settled,cut,generation,pc,pg,p2,p3,total,reason
+1,0,0,0,7930000,100000,0,334500,0,0,334500,0
+2,44000,2933,30676000,0,0,1533800,0,4697263,153380,6077683,0
+";
+
 /// Park Alder byte by byte, as "The park file" lays it out.
 #[rustfmt::skip]
 pub const ALDER_FILE: [u8; 99] = [

@@ -10,6 +10,8 @@ pub fn run(tester: &mut Tester) {
     hours_of_months(tester);
     ends_of_lines(tester);
     tangents(tester);
+    high_tangents(tester);
+    tenths_of_tangents(tester);
     around_the_reasons(tester);
 }
 
@@ -55,6 +57,29 @@ fn tangents(tester: &mut Tester) {
             let park = one_line(price, eerp, active, active / 1_000 * tangent);
             tester.file(&format!("tg {tangent}, T {price}"), &park.to_file());
         }
+    }
+}
+
+/// Steps 2 and 10 (02, R-4): tangents above those, all near the limit of 99,999 and near the powers
+/// of two and a sample of the rest, with small and large charges.
+fn high_tangents(tester: &mut Tester) {
+    let near_limit = 99_899..=100_099;
+    let near_powers = (11..=23).flat_map(|digits| (1 << digits) - 3..=(1 << digits) + 3);
+    let between = (2_011..99_899).step_by(97);
+    for tangent in near_limit.chain(near_powers).chain(between) {
+        let large = 10_000_000 / tangent * 1_000;
+        for (price, active, eerp) in [(1_999_999, large, 4_999), (500_000, 1_000, 7)] {
+            let park = one_line(price, eerp, active, active / 1_000 * tangent);
+            tester.file(&format!("tg {tangent}, T {price}"), &park.to_file());
+        }
+    }
+}
+
+/// Step 2: tangents around 2,000 and around 99,999 in steps of a tenth, to be rounded.
+fn tenths_of_tangents(tester: &mut Tester) {
+    for tenths in (19_970..=20_030).chain(999_960..=1_000_030) {
+        let park = one_line(1_000_000, 10, 10_000, tenths);
+        tester.file(&format!("tg {tenths} tenths"), &park.to_file());
     }
 }
 
