@@ -8,18 +8,18 @@ use crate::random::Random;
 const UNWRITTEN: u64 = 0x5EED_5EED_5EED_5EED;
 
 /// A list longer than the largest park fills.
-const ROOM: usize = 11 * 16 + 3;
+pub const ROOM: usize = 11 * 16 + 3;
 
 /// All that a call leaves: its number, its place, the site count, and the list or the bill.
 #[derive(Debug, PartialEq)]
-struct Outcome {
-    number: u64,
-    place: u64,
-    sites: u64,
-    numbers: Vec<u64>,
+pub struct Outcome {
+    pub number: u64,
+    pub place: u64,
+    pub sites: u64,
+    pub numbers: Vec<u64>,
 }
 
-fn checked<C: Calls>(file: &[u8]) -> Outcome {
+pub fn checked<C: Calls>(file: &[u8]) -> Outcome {
     let mut place = UNWRITTEN;
     let number = C::check(file, &mut place);
     Outcome { number, place, sites: UNWRITTEN, numbers: Vec::new() }
@@ -31,7 +31,7 @@ fn site_billed<C: Calls>(file: &[u8], site: u64) -> Outcome {
     Outcome { number, place, sites: UNWRITTEN, numbers: bill.to_vec() }
 }
 
-fn park_billed<C: Calls>(file: &[u8], list_len: usize) -> Outcome {
+pub fn park_billed<C: Calls>(file: &[u8], list_len: usize) -> Outcome {
     let (mut place, mut sites) = (UNWRITTEN, UNWRITTEN);
     let mut numbers = vec![UNWRITTEN; ROOM];
     let number = C::bill_park(file, &mut numbers[..list_len], &mut place, &mut sites);
@@ -70,7 +70,7 @@ fn damage(random: &mut Random, file: &mut [u8]) {
 }
 
 /// Every site and one to either side; a list of each length that matters.
-fn assert_agree_on(file: &[u8], sites: u64) -> u32 {
+pub fn assert_agree_on(file: &[u8], sites: u64) -> u32 {
     let mut numbers = 0;
     let mut assert_alike = |product: Outcome, plain: Outcome, call: &str| {
         assert_eq!(product, plain, "{call} {file:?}");

@@ -125,7 +125,8 @@ fn assert_agree_on(list: &[u32], file_len: usize) -> u32 {
 }
 
 /// Panics unless both make Park Alder's file from its numbers, want room for all of it, and refuse
-/// its list cut short or with numbers that are too large for their fields.
+/// its list cut short, with numbers that are too large for their fields, or with a mark of version
+/// 2.
 pub fn assert_alder() {
     let assert_left = |numbers: &[u32], buffer_len: usize, left: Outcome| {
         assert_eq!(encoded::<Plain>(numbers, buffer_len), left, "plain {numbers:?}");
@@ -138,5 +139,10 @@ pub fn assert_alder() {
         let mut numbers = ALDER_NUMBERS;
         numbers[index] = number;
         assert_left(&numbers, ROOM, refused(refusal, place));
+    }
+    for mark in 8..16 {
+        let mut numbers = ALDER_NUMBERS;
+        numbers[17] = mark;
+        assert_left(&numbers, ROOM, refused(15, 1));
     }
 }

@@ -1,4 +1,5 @@
-//! The fourth call in plain safe Rust, written to be fast: a park file made of its numbers.
+//! The fourth call in plain safe Rust, written to be fast: a park file of version 1 made of its
+//! numbers.
 //!
 //! All is checked before any byte is written, since a refusal leaves the buffer as it was; the list
 //! is then read again from the nearest cache, which takes less time than a copy of the file. As in
@@ -7,8 +8,8 @@
 
 use crate::plain::answer;
 use crate::records::{Header, Line, Site, HEADER_BYTES, LINE_BYTES, SITE_BYTES};
-use crate::records::{MONTH_HOURS, MOST_EERP, MOST_READING};
-use crate::rules::{first_broken, Refusal};
+use crate::records::{MONTH_HOURS, MOST_EERP, MOST_MARK, MOST_READING};
+use crate::refusals::{first_broken, Refusal};
 
 /// How many numbers a list has for the header, for a site and for a line.
 pub const HEADER_NUMBERS: usize = 5;
@@ -186,12 +187,13 @@ fn first_refusal(numbers: &[u32]) -> Option<Refusal> {
     let header = header(head);
     let site_count = SITE_NUMBERS * header.sites as usize;
     let count = site_count + LINE_NUMBERS * header.lines as usize;
-    if let Some(number) = header.broken(rest.len() == count) {
+    if let Some(number) = header.broken(0, rest.len() == count) {
         return Some(Refusal { number, place: 0 });
     }
     let (sites, lines) = rest.split_at(site_count);
     let sites = sites.as_chunks().0.iter().map(site);
-    first_broken(header.sites, sites, lines.as_chunks().0.iter().map(line))
+    let lines = lines.as_chunks().0.iter().map(line);
+    first_broken(header.sites, MOST_MARK, sites, lines, std::iter::empty())
 }
 
 fn header(numbers: &[u32; HEADER_NUMBERS]) -> Header {
@@ -216,7 +218,7 @@ fn site(numbers: &[u32; SITE_NUMBERS]) -> Site {
 fn line(numbers: &[u32; LINE_NUMBERS]) -> Line {
     let [from, to, meters, eerp, active, reactive, generated, night] = *numbers;
     let ([from, to, meters], eerp) = ([from, to, meters].map(one_byte), two_bytes(eerp));
-    Line { from, to, meters, eerp, active, reactive, generated, night }
+    Line { from, to, meters, eerp, active, reactive, generated, night, active_generated: 0 }
 }
 
 fn one_byte(number: u32) -> u8 {

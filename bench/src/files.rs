@@ -1,5 +1,5 @@
-//! Sets of accepted park files of one shape, and the lists of their numbers. Every random set has
-//! at least 1,024 different files, so that no branch predictor learns them by heart.
+//! Sets of accepted park files of one shape, and of version 1 the lists of their numbers. Every
+//! random set has at least 1,024 different files, so that no branch predictor learns them by heart.
 
 use crate::encode::{HEADER_NUMBERS, LINE_NUMBERS, SITE_NUMBERS};
 use crate::random::Random;
@@ -24,7 +24,8 @@ const MARKS: [u8; 6] = [0, 1, 2, 3, 6, 7];
 /// The two ends of Alder's lines.
 const ALDER_ENDS: [(u8, u8); 3] = [(0, 1), (1, 2), (0, 2)];
 
-/// Files of one shape, one behind the other, and so the lists of their numbers.
+/// Files of one shape, one behind the other, and so the lists of their numbers. Files of version 2
+/// have no lists.
 pub struct Files {
     bytes: Vec<u8>,
     file_len: usize,
@@ -94,6 +95,11 @@ impl Files {
         Files { bytes, file_len, numbers, list_len, sites: sites as u64, lines: lines as u64 }
     }
 
+    /// Files of version 2 with this length, and with the sites and lines of another set.
+    pub fn without_lists(bytes: Vec<u8>, shape: &Files, file_len: usize) -> Files {
+        Files { bytes, file_len, numbers: Vec::new(), ..*shape }
+    }
+
     pub fn iter(&self) -> impl Iterator<Item = &[u8]> {
         self.bytes.chunks_exact(self.file_len)
     }
@@ -118,7 +124,7 @@ fn numbers(file: &[u8]) -> Vec<u32> {
         numbers.extend([site.power, site.flag as u32]);
         numbers.extend([site.compensation, site.motors, site.discount].map(u32::from));
     }
-    for line in lines.as_chunks().0.iter().map(Line::read) {
+    for line in lines.as_chunks::<LINE_BYTES>().0.iter().map(Line::read) {
         numbers.extend([line.from, line.to, line.meters].map(u32::from));
         numbers.push(line.eerp as u32);
         numbers.extend(line.readings());

@@ -1,20 +1,31 @@
-//! The park file for plain.rs: its three records, and what a meter mark says of its line.
+//! The park file for plain.rs: its records, and what a meter mark says of its line.
 
+/// The header of version 1. That of version 2 has one more byte, the number of generators.
 pub const HEADER_BYTES: usize = 14;
 pub const SITE_BYTES: usize = 11;
+/// A line in version 1, and in version 2 with one more reading.
 pub const LINE_BYTES: usize = 21;
+pub const LINE_BYTES_2: usize = 25;
+/// A generator, in version 2 alone.
+pub const GENERATOR_BYTES: usize = 5;
 
-/// The bits of a meter mark.
+/// The bits of a meter mark, the last in version 2 alone.
 pub const REACTIVE_METER: u8 = 1;
 pub const GENERATED_METER: u8 = 2;
 pub const NIGHT_METER: u8 = 4;
+pub const ACTIVE_METER: u8 = 8;
+
+/// The largest marks of version 1 and of version 2.
+pub const MOST_MARK: u8 = 7;
+pub const MOST_MARK_2: u8 = 15;
 
 /// Most hours a month may state, January to December.
 pub const MONTH_HOURS: [u16; 12] = [744, 696, 743, 720, 744, 720, 744, 744, 720, 745, 720, 744];
 
-/// The most that D and a reading may be.
+/// The most that D and a reading may be, and the most generators.
 pub const MOST_EERP: u16 = 5_000;
 pub const MOST_READING: u32 = 10_000_000;
+pub const MOST_GENERATORS: u8 = 32;
 
 pub struct Header {
     pub mark: [u8; 3],
@@ -55,6 +66,14 @@ pub struct Line {
     pub reactive: u32,
     pub generated: u32,
     pub night: u32,
+    /// Active generation, kWh; 0 in version 1.
+    pub active_generated: u32,
+}
+
+pub struct Generator {
+    pub site: u8,
+    /// Active generation, kWh.
+    pub output: u32,
 }
 
 impl Header {
@@ -84,10 +103,10 @@ impl Header {
         SITE_BYTES * self.sites as usize
     }
 
-    /// How many bytes the line records take.
+    /// How many bytes the line records of one length take.
     #[inline(always)]
-    pub fn line_bytes(&self) -> usize {
-        LINE_BYTES * self.lines as usize
+    pub fn line_bytes(&self, of_one: usize) -> usize {
+        of_one * self.lines as usize
     }
 }
 
@@ -106,9 +125,9 @@ impl Site {
 }
 
 impl Line {
-    /// Decodes a line record.
+    /// Decodes a line record of either version.
     #[inline(always)]
-    pub fn read(record: &[u8; LINE_BYTES]) -> Line {
+    pub fn read<const BYTES: usize>(record: &[u8; BYTES]) -> Line {
         Line {
             from: record[0],
             to: record[1],
@@ -118,6 +137,7 @@ impl Line {
             reactive: four(record, 9),
             generated: four(record, 13),
             night: four(record, 17),
+            active_generated: if BYTES == LINE_BYTES_2 { four(record, LINE_BYTES) } else { 0 },
         }
     }
 
@@ -150,6 +170,14 @@ impl Line {
     }
 }
 
+impl Generator {
+    /// Decodes a generator record.
+    #[inline(always)]
+    pub fn read(record: &[u8; GENERATOR_BYTES]) -> Generator {
+        Generator { site: record[0], output: four(record, 1) }
+    }
+}
+
 #[inline(always)]
 fn two(record: &[u8], at: usize) -> u16 {
     u16::from_le_bytes(record[at..at + 2].try_into().expect("two bytes"))
@@ -169,8 +197,11 @@ pub struct Mark {
     pub most: [u32; 4],
     /// All ones for each of WP, WQ, WG and WN that counts at a transit, else 0.
     pub at_transit: [u32; 4],
-    /// The most that D may be; 0 for a mark that is not allowed, so that no D is.
-    pub most_eerp: u32,
+    /// The most that D may be in version 1 and in version 2; 0 for a mark that is not allowed
+    /// there, so that no D is.
+    pub most_eerp: [u32; 2],
+    /// The most that active generation may be, 0 without the meter.
+    pub most_active_generated: u32,
     /// All ones without a meter of reactive consumption, else 0.
     pub unmetered: u32,
     /// What an input and a transit add to the counts of their site.
@@ -183,11 +214,11 @@ pub const ONE_INPUT: u64 = 1 << 32;
 pub const ONE_WITHOUT_GENERATED: u64 = 1 << 40;
 pub const ONE_WITHOUT_NIGHT: u64 = 1 << 48;
 
-/// By mark: 0, 1, 2, 3, 6 and 7 are allowed (rule 15).
+/// By mark: 0, 1, 2, 3, 6 and 7 are allowed, in version 2 with or without 8 (rule 15).
 static MARKS: [Mark; 256] = {
     let mut marks = [const { Mark::not_allowed() }; 256];
     let mut mark = 0;
-    while mark < 8 {
+    while mark <= MOST_MARK_2 {
         if mark & 6 != NIGHT_METER {
             marks[mark as usize] = Mark::allowed(mark);
         }
@@ -201,7 +232,8 @@ impl Mark {
         Mark {
             most: [0; 4],
             at_transit: [0; 4],
-            most_eerp: 0,
+            most_eerp: [0; 2],
+            most_active_generated: 0,
             unmetered: 0,
             input_count: 0,
             transit_count: 0,
@@ -209,8 +241,8 @@ impl Mark {
     }
 
     const fn allowed(mark: u8) -> Mark {
-        let [reactive, generated, night] =
-            [mark & REACTIVE_METER != 0, mark & GENERATED_METER != 0, mark & NIGHT_METER != 0];
+        let [reactive, generated] = [mark & REACTIVE_METER != 0, mark & GENERATED_METER != 0];
+        let [night, active] = [mark & NIGHT_METER != 0, mark & ACTIVE_METER != 0];
         let without_generated = if generated { 0 } else { ONE_WITHOUT_GENERATED };
         let without_night = if night { 0 } else { ONE_WITHOUT_NIGHT };
         Mark {
@@ -221,7 +253,8 @@ impl Mark {
                 if night { !0 } else { 0 },
             ],
             at_transit: [if reactive { !0 } else { 0 }, !0, !0, !0],
-            most_eerp: MOST_EERP as u32,
+            most_eerp: [if active { 0 } else { MOST_EERP as u32 }, MOST_EERP as u32],
+            most_active_generated: if active { MOST_READING } else { 0 },
             unmetered: if reactive { 0 } else { !0 },
             input_count: ONE_INPUT + without_generated + without_night,
             transit_count: without_night,

@@ -16,7 +16,7 @@ static int written(int status)
 
 int main(void)
 {
-    /* The longest accepted file has 1,534 bytes. Of a longer one 2,048 are enough: they are refused as the whole is. */
+    /* The longest accepted file has 1,951 bytes. Of a longer one 2,048 are enough: they are refused as the whole is. */
     static uint8_t file[2048];
     static uint64_t list[16 * 11];
     uint64_t place, sites;

@@ -30,7 +30,7 @@ static int written(int status)
 
 int main(int arguments, char **argument)
 {
-    /* The longest file has 1,534 bytes. */
+    /* The longest file of version 1 has 1,534 bytes. */
     static uint8_t file[1534];
     size_t room = sizeof file;
     uint64_t place, size;

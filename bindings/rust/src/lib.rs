@@ -6,7 +6,7 @@
 /// reason.
 pub type Bill = [u64; 11];
 
-/// The rule that refuses a file, a list or a call, and the site or line it speaks of, or 0.
+/// The rule that refuses a file, a list or a call, and the site, line or generator it speaks of, or 0.
 #[derive(Clone, Copy, Debug, PartialEq, Eq)]
 pub struct Refusal {
     pub number: u64,

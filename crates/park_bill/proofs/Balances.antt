@@ -14,7 +14,9 @@ use borrow.Author.Tests.{eq-eqb, ne-eqb}
 use Rattle.park_format.specs.Park.{Park, inputs, transits}
 use Rattle.park_format.specs.Rules.{measuresReactive}
 use Rattle.park_format.specs.Accepted.{Every, KeptLine}
+use Rattle.park_format.specs.declared.header.Header.{Header}
 use Rattle.park_format.specs.declared.line.Line.{Line}
+use Rattle.park_format.proofs.Lists.{every-map}
 use Rattle.park_charge.specs.Flow.{inflow, outflow}
 use Rattle.park_charge.specs.Losses.{settled, cut, settled-balance}
 use Rattle.park_charge.specs.Rounding.{rounded, rounded-upper, rounded-lower}
@@ -86,8 +88,17 @@ same-flow : (tg : ℕ) (l : Line) → measuresReactive (l .meters) ≡ true → 
 unfolding inflow outflow
 same-flow tg l e = rw e
 
+-- what the rules say of the ends of a line, in a park of n sites
+record Ends (n : ℕ) (l : Line) : Type 0 where
+  from : l .from ≤ n
+  to : l .to ≤ n
+  notBothNetwork : l .from ≡ 0 → l .to ≡ 0 → ⊥
+
+kept-ends : (h : Header) (lines : List Line) → Every (KeptLine h) lines → Every (Ends (h .sites)) lines
+kept-ends h lines kept = every-map (KeptLine h) (Ends (h .sites)) (λ l k. record { from = k .from; to = k .to; notBothNetwork = k .notBothNetwork }) lines kept
+
 -- one line: what its ends put into the sums of sites 1 to n and of the network comes to the same on both sides
-line-cancels : (tg : ℕ → ℕ) (n : ℕ) (l : Line) → KeptLine n l → MeasuredBetween l
+line-cancels : (tg : ℕ → ℕ) (n : ℕ) (l : Line) → Ends n l → MeasuredBetween l
     → overSites (λ (k : ℕ). when (eqb (l .to) k) (lossIn l)) n + when (eqb (l .to) 0) (lossOut (tg (l .from)) l)
     ≡ overSites (λ (k : ℕ). when (eqb (l .from) k) (lossOut (tg k) l)) n + when (eqb (l .from) 0) (lossIn l)
 line-cancels tg n l kept metered = by (ℕ-discrete (l .from) 0) (ℕ-discrete (l .to) 0)
@@ -126,7 +137,7 @@ line-cancels tg n l kept metered = by (ℕ-discrete (l .from) 0) (ℕ-discrete (
     by (no f) (no t) = to-site t ∙ same-flow (tg (l .from)) l (metered f t) ∙ sym (from-site f)
 
 -- all lines: the sites' inflows with what goes back are the sites' outflows with what comes in
-lines-cancel : (tg : ℕ → ℕ) (n : ℕ) (lines : List Line) → Every (KeptLine n) lines → Every MeasuredBetween lines
+lines-cancel : (tg : ℕ → ℕ) (n : ℕ) (lines : List Line) → Every (Ends n) lines → Every MeasuredBetween lines
     → overSites (λ (k : ℕ). sumBy lossIn (inputs k lines)) n + sumBy (λ (l : Line). lossOut (tg (l .from)) l) (inputs 0 lines)
     ≡ overSites (λ (k : ℕ). sumBy (lossOut (tg k)) (transits k lines)) n + sumBy lossIn (transits 0 lines)
 lines-cancel tg n lines kept metered =
@@ -141,15 +152,15 @@ lines-cancel tg n lines kept metered =
     (sumBy-select lossIn (λ (x : Line). eqb (x .from) 0) lines))
 
 -- the whole numbers behind the balance, for any park whose lines keep the rules
-module _ (p : Park) (kept : Every (KeptLine (p .header .sites)) (p .lines)) (measured : Measured p) where
+module _ (p : Park) (kept : Every (KeptLine (p .header)) (p .lines)) (measured : Measured p) where
   abbrev n : ℕ
   n = p .header .sites
 
   abbrev tangents : ℕ → ℕ
-  tangents k = tangentOf (touching k (p .lines))
+  tangents k = tangentOf (touching k p)
 
   abbrev sum-of : ℕ → ℤ
-  sum-of k = weightedSum (touching k (p .lines))
+  sum-of k = weightedSum (touching k p)
 
   -- each site: settled and out are in and cut
   site-split : (k : ℕ) → settled (sum-of k) + sumBy (lossOut (tangents k)) (transits k (p .lines)) ≡ sumBy lossIn (inputs k (p .lines)) + cut (sum-of k)
@@ -161,7 +172,7 @@ module _ (p : Park) (kept : Every (KeptLine (p .header .sites)) (p .lines)) (mea
 
   -- the park: settled and going back are coming in and cut
   pub park-split : overSites (λ (k : ℕ). settled (sum-of k)) n + goingBack p ≡ comingIn p + overSites (λ (k : ℕ). cut (sum-of k)) n
-  park-split = omega (arith, sites-split, lines-cancel tangents n (p .lines) kept measured)
+  park-split = omega (arith, sites-split, lines-cancel tangents n (p .lines) (kept-ends (p .header) (p .lines) kept) measured)
 
 -- from whole numbers to signed ones
 signed : (a g c k : ℕ) → a + g ≡ c + k → pos a ≡ (pos c -ℤ pos g) +ℤ pos k
@@ -202,7 +213,7 @@ pub record Bills (p : Park) (bills : ℕ → ℕ → ℕ) : Type 0 where
   pub charge : EachSite (λ (k : ℕ). bills k 6 ≡ bill p k .pc) (p .header .sites)
   pub reason : EachSite (λ (k : ℕ). bills k 11 ≡ bill p k .reason) (p .header .sites)
 
-module _ (p : Park) (kept : Every (KeptLine (p .header .sites)) (p .lines)) (measured : Measured p) (bills : ℕ → ℕ → ℕ) (of : Bills p bills) where
+module _ (p : Park) (kept : Every (KeptLine (p .header)) (p .lines)) (measured : Measured p) (bills : ℕ → ℕ → ℕ) (of : Bills p bills) where
   abbrev s : ℕ
   s = p .header .sites
 

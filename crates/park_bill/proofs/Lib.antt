@@ -3,6 +3,7 @@ pub mod Sites
 pub mod Starts
 pub mod Money
 pub mod Former
+pub mod First
 pub mod Refusals
 pub mod Slices
 pub mod Billed

@@ -1,4 +1,5 @@
--- The loss balance (demand 3; 01, the paragraph after the eleven numbers), for every accepted park whose lines between two sites all have a meter of reactive consumption.
+-- The loss balance (demand 3; 01, the paragraph after the eleven numbers; 02, R-5, of both versions), for every accepted park whose lines between
+-- two sites all have a meter of reactive consumption. It speaks of what a line carries at its ends, and of no version.
 -- Assumes nothing.
 use Prim.Native.Nat.{ℕ, _+_, _*_, _-_, _≤_}
 use mathlib.Core.Logic.{_↔_}
@@ -31,7 +32,7 @@ comingIn p = sumBy lossIn (transits 0 (p .lines))
 
 abbrev pub goingBack : Park → ℕ
 goingBack p =
-    sumBy (λ (l : Line). lossOut (tangentOf (touching (l .from) (p .lines))) l) (inputs 0 (p .lines))
+    sumBy (λ (l : Line). lossOut (tangentOf (touching (l .from) p)) l) (inputs 0 (p .lines))
 
 abbrev pub networkEnergy : Park → ℤ
 networkEnergy p = pos (comingIn p) -ℤ pos (goingBack p)
@@ -45,7 +46,7 @@ AllZero p bills j = EachSite (λ (k : ℕ). bills k j ≡ 0) (p .header .sites)
 
 -- step 5's weighted sum of site k
 abbrev pub sumAt : Park → ℕ → ℤ
-sumAt p k = weightedSum (touching k (p .lines))
+sumAt p k = weightedSum (touching k p)
 
 pub record Balance (p : Park) (bills : ℕ → ℕ → ℕ) : Type 0 where
   -- each site's settled losses and cut are those of step 5

@@ -6,6 +6,7 @@ use park_format::header::Header;
 use park_format::meter;
 use park_format::rule::Refusal;
 use park_format::rule::Verdict;
+use park_sums::own;
 use park_sums::row;
 use park_sums::walk;
 ghost use mathlib.Core.Path.{_≡_};
@@ -48,7 +49,7 @@ fn bill_at(
     transit_meters: u32,
 ) -> Bill
     requires accepted { ⌜ (IsAccepted (now file)) × (header ≡ headerOf (now file)) ⌝ }
-    requires walked { ⌜ (k < header .sites) × (IsSite (touching (k + 1) (parkOf (now file) .lines)) sums tangent «input_meters» «transit_meters») ⌝ }
+    requires walked { ⌜ (k < header .sites) × (IsSite (touching (k + 1) (parkOf (now file))) sums tangent «input_meters» «transit_meters») ⌝ }
     ensures { λ r. ⌜ r ≡ bill (parkOf (now (file .entry))) (k + 1) ⌝ }
 {
     site::bill_of(
@@ -70,7 +71,8 @@ fn bill_one(file: &[u8], header: Header, site: u32) -> Bill
 {
     let sums = walk::site_sums(file, header, site);
     let before = sums.row;
-    let tangent = row::tangent(before);
+    let more = own::more_at(file, header, site);
+    let tangent = row::tangent(before, more);
     let after = walk::site_after_transits(file, header, site, tangent, before);
     bill_at(
         file,
@@ -94,7 +96,7 @@ fn write_bills(
     list: &mut [u64],
 )
     requires accepted { ⌜ (IsAccepted (now file)) × (header ≡ headerOf (now file)) ⌝ }
-    requires walked { ⌜ AreSites (parkOf (now file) .lines) (header .sites) (now rows) (now tangents) (now «input_meters») (now «transit_meters») ⌝ }
+    requires walked { ⌜ AreSites (parkOf (now file)) (header .sites) (now rows) (now tangents) (now «input_meters») (now «transit_meters») ⌝ }
     requires long { ⌜ billNumbers * header .sites ≤ length (now list) ⌝ }
     ensures { λ r. ⌜ now (list .exit) ≡ billsOf (parkOf (now (file .entry))) (header .sites) ++ drop (billNumbers * header .sites) (now (list .entry)) ⌝ }
 {
@@ -135,7 +137,7 @@ fn bill_all(file: &[u8], header: Header, list: &mut [u64])
         &mut transit_meters,
     );
     let mut tangents = [0u64; walk::PLACES];
-    walk::tangents(header.sites as usize, &rows, &mut tangents);
+    walk::tangents(file, header, &rows, &mut tangents);
     walk::after_transits(file, header, &tangents, &mut rows);
     write_bills(
         file,

@@ -6,10 +6,12 @@ use mathlib.Core.List.{List}
 use lib.ListN.{length}
 use borrow.Author.Tests.{eqb-true, ltb-false, not-false}
 use Rattle.park_format.specs.Accepted.{Kept}
-use Rattle.park_format.specs.Made.{FitsFile}
+use Rattle.park_format.specs.Made.{FitsFile, Lacking}
+use Rattle.park_format.specs.Park.{listOf}
+use Rattle.park_format.specs.declared.line.Line.{Line}
 use Rattle.park_format.proofs.Accepted.{kept-park, Parts, parts, right-length}
 use Rattle.park_format.proofs.Fits.{kept-fits}
-use Rattle.park_format.proofs.Lists.{length-listOf}
+use Rattle.park_format.proofs.Lists.{every-listOf, length-listOf}
 use Rattle.park_encode.specs.Encode.{hasTooFew, hasWrongCount, IsAcceptedList, listRefusal, listRules, madeSize}
 use Rattle.park_encode.specs.Numbers.{headerFields, listCount, listHeader, listLine, listPark, listSite}
 
@@ -20,6 +22,19 @@ site-count numbers = length-listOf (listSite numbers) (listHeader numbers .sites
 pub line-count : (numbers : List ℕ) → length (listPark numbers .lines) ≡ listPark numbers .header .lines
 unfolding listPark
 line-count numbers = length-listOf (listLine (listHeader numbers) numbers) (listHeader numbers .lines)
+
+pub generator-count : (numbers : List ℕ) → length (listPark numbers .generators) ≡ listPark numbers .header .generators
+unfolding listPark listHeader listOf
+generator-count numbers = refl
+
+-- what version 1 has no field for is 0
+lacking : (numbers : List ℕ) → Lacking (listPark numbers)
+unfolding listPark listHeader listLine listOf
+lacking numbers =
+    record {
+      generators = refl;
+      lines = every-listOf (λ (l : Line). l .produced ≡ 0) (listLine (listHeader numbers) numbers) (listHeader numbers .lines) (λ i h. refl);
+    }
 
 module _ (numbers : List ℕ) (accepted : IsAcceptedList numbers) where
   list-parts : Parts (hasTooFew numbers) (hasWrongCount numbers) (listPark numbers)
@@ -34,7 +49,7 @@ module _ (numbers : List ℕ) (accepted : IsAcceptedList numbers) where
 
   pub list-kept : Kept (madeSize numbers) (listPark numbers)
   unfolding listPark
-  list-kept = kept-park (listPark numbers) (madeSize numbers) list-parts refl (site-count numbers) (line-count numbers)
+  list-kept = kept-park (listPark numbers) (madeSize numbers) list-parts refl (site-count numbers) (line-count numbers) (generator-count numbers)
 
   pub list-fits : FitsFile (listPark numbers)
-  list-fits = kept-fits (madeSize numbers) (listPark numbers) list-kept
+  list-fits = kept-fits (madeSize numbers) (listPark numbers) list-kept (λ e. lacking numbers)

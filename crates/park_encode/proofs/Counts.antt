@@ -9,7 +9,8 @@ use mathlib.Core.Option.{Option, none, some}
 use borrow.Author.Tests.{eq-eqb, ltb-false, ltb-true, ne-eqb}
 use lib.Dec.{lit≤}
 use lib.ListN.{length}
-use Rattle.park_format.specs.Rules.{firstBroken, headerRules}
+use Rattle.park_format.specs.Park.{listOf, noGenerator}
+use Rattle.park_format.specs.Rules.{each, firstBroken, headerRules}
 use Rattle.park_format.specs.declared.header.Header.{Header}
 use Rattle.park_format.proofs.Rules.{same-refusal}
 use Rattle.park_format.proofs.Said.{before-nine, first-says, nine-decides, table-says}
@@ -22,12 +23,13 @@ use Rattle.park_encode.proofs.Table.{few-refused, list-table}
 module _ (numbers : List ℕ) where
   -- what holds of 4 to 8 and from 10 on, of 1 where there are too few numbers and of 9 where their count is wrong holds of the refusal
   says : (P : ℕ → Type 0) → (hasTooFew numbers ≡ true → P 1) → ((n : ℕ) → 4 ≤ n → n ≤ 8 → P n) → (hasWrongCount numbers ≡ true → P 9) → ((n : ℕ) → 10 ≤ n → P n) → (r : ℕ × ℕ) → listRefusal numbers ≡ some r → P (r .0)
-  unfolding listRefusal listRules listPark listHeader headerRules
+  unfolding each listRefusal listRules listPark listHeader listOf headerRules
   says P one header nine rest r e =
       first-says P (listRules numbers)
       (table-says P (hasTooFew numbers) (hasWrongCount numbers) (listPark numbers) one
-      (λ e. absurd (true≢false (sym e)), (λ e. absurd (true≢false (sym e)), (λ e. header 4 (lit≤ tt) (lit≤ tt), (λ e. header 5 (lit≤ tt) (lit≤ tt), (λ e. header 6 (lit≤ tt) (lit≤ tt), (λ e. header 7 (lit≤ tt) (lit≤ tt), (λ e. header 8 (lit≤ tt) (lit≤ tt), (nine, tt))))))))
-      (λ n low own. rest n low))
+      (λ e. absurd (true≢false (sym e)), (λ e. absurd (true≢false (sym e)), (λ e. header 4 (lit≤ tt) (lit≤ tt), (λ e. header 5 (lit≤ tt) (lit≤ tt), (λ e. header 6 (lit≤ tt) (lit≤ tt), (λ e. header 7 (lit≤ tt) (lit≤ tt), (λ e. header 8 (lit≤ tt) (lit≤ tt), (λ e. absurd (true≢false (sym e)), (nine, tt)))))))))
+      tt
+      (λ n low high own. rest n low))
       e
 
 pub too-few : TooFew
@@ -50,7 +52,7 @@ module _ (numbers : List ℕ) where
 
   -- a broken rule of the header is the list's, if there is a header
   its-header : headerFields ≤ length numbers → {r : ℕ × ℕ} → firstBroken (headerRules (hasWrongCount numbers) h) ≡ some r → listRefusal numbers ≡ some r
-  its-header five e = sym (header-refused (hasWrongCount numbers) h (listSite numbers) (listLine h numbers) (list-table numbers h refl five) (sym e))
+  its-header five e = sym (header-refused (hasWrongCount numbers) h (listSite numbers) (listLine h numbers) (λ (i : ℕ). noGenerator) (list-table numbers h refl five) (sym e))
 
   said-nine : headerFields ≤ length numbers → firstBroken (headerRules false h) ≡ none → hasWrongCount numbers ≡ true → listRefusal numbers ≡ some (9, 0)
   said-nine five kept wrong = its-header five (nine-decides h (hasWrongCount numbers) kept wrong)
@@ -81,7 +83,7 @@ module _ (numbers : List ℕ) where
         by (some r) q =
             let before = before-nine h (hasWrongCount numbers) q in
             let nine = ap (λ (p : ℕ × ℕ). p .0) (same-refusal (sym (its-header five (before .0)) ∙ e)) in
-            absurd (omega (arith, before .1, nine))
+            absurd (before .1 nine)
 
 pub wrong-count : WrongCount
 wrong-count numbers place = (

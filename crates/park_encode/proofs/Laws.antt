@@ -9,14 +9,17 @@ use borrow.Author.Tests.{eq-eqb, le-ltb}
 use lib.ListN.{drop, length, take}
 use lib.Seq.{drop-at, take-at}
 use Rattle.park_format.specs.Call.{answer}
-use Rattle.park_format.specs.Format.{headerSize}
+use Rattle.park_format.specs.Format.{shortestHeader}
 use Rattle.park_format.specs.Made.{fileOf, FitsFile}
 use Rattle.park_format.specs.Park.{headerOf, Park, parkOf}
 use Rattle.park_format.specs.Rules.{fileRules, hasWrongLength, isShort, refusal, sizeOf}
 use Rattle.park_format.specs.declared.header.Header.{Header}
 use Rattle.park_format.proofs.Accepted.{kept}
 use Rattle.park_format.proofs.Fits.{kept-fits}
-use Rattle.park_format.proofs.Made.{file-bytes, read-back, written-again}
+use Rattle.park_format.proofs.Made.{file-bytes, read-back}
+use Rattle.park_format.proofs.Again.{written-again}
+use Rattle.park_format.proofs.First.{first-lacks}
+use Rattle.park_format.proofs.Sizes.{header-sizes}
 use Rattle.park_encode.specs.Encode.{bufferAfter, hasTooFew, hasWrongCount, IsAcceptedList, listRefusal, listRules, madeFile, madeSize}
 use Rattle.park_encode.specs.Laws.{EncodedInto, FilesOfOneList, ListsReadBack, MadeOf, RefusedAlike}
 use Rattle.park_encode.specs.Numbers.{headerFields, listCount, listHeader, listPark, numbersOf, version}
@@ -39,7 +42,7 @@ refused-alike numbers count fits =
     let length-right : hasWrongLength file ≡ hasWrongCount numbers =
     ap not (eq-eqb (length file) (sizeOf (headerOf file)) (size ∙ ap sizeOf (sym (header-made numbers fits))) ∙ sym (eq-eqb (length numbers) _ count)) in
     let long : isShort file ≡ hasTooFew numbers =
-    le-ltb (length file) headerSize (omega (arith, size)) ∙ sym (le-ltb (length numbers) headerFields (omega (arith, count))) in
+    le-ltb (length file) shortestHeader (omega (arith, size, header-sizes (listHeader numbers .version))) ∙ sym (le-ltb (length numbers) headerFields (omega (arith, count))) in
     rw (long, length-right, read-back (listPark numbers) fits)
 
 module _ (numbers : List ℕ) (accepted : IsAcceptedList numbers) where
@@ -74,13 +77,14 @@ unfolding parkOf listPark
 files-of-one-list file bytes accepted first =
     let p = parkOf file in
     let k = kept file accepted in
-    let read = park-read p (k .siteCount) (k .lineCount) (k .header .mark) first in
+    let lacks = first-lacks file first in
+    let read = park-read p (k .siteCount) (k .lineCount) (k .header .mark) first (lacks .0) (lacks .1) in
     let makes : madeFile (numbersOf p) ≡ file = ap fileOf read ∙ written-again file bytes (k .header .size) in
     let header : listHeader (numbersOf p) ≡ p .header = ap (λ (q : Park). q .header) read in
     let count = numbers-count p (k .siteCount) (k .lineCount) ∙ ap (λ (h : Header). listCount (h .sites) (h .lines)) (sym header) in
-    let fits = kept-fits (length file) p k in
+    let fits = kept-fits (length file) p k (λ e. lacks .0) in
     record {
-      wide = numbers-wide p fits;
+      wide = numbers-wide p first fits;
       accepted = sym (refused-alike (numbersOf p) count (subst FitsFile (sym read) fits)) ∙ ap refusal makes ∙ accepted;
       makes = makes;
       only = λ numbers its same. sym (made-of numbers its .same) ∙ ap (λ (l : List ℕ). numbersOf (parkOf l)) same;

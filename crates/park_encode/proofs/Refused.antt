@@ -11,7 +11,8 @@ use borrow.Author.Tests.{lt-ltb, ltb-true}
 use lib.Dec.{lit≤, ltb}
 use lib.ListN.{length}
 use Rattle.park_format.specs.Call.{answer}
-use Rattle.park_format.specs.Rules.{firstBroken, headerRules, OfTable}
+use Rattle.park_format.specs.Park.{listOf}
+use Rattle.park_format.specs.Rules.{each, firstBroken, headerRules, OfTable}
 use Rattle.park_format.proofs.Ends.{ends-meant}
 use Rattle.park_format.proofs.Former.{same-refused}
 use Rattle.park_format.proofs.Said.{first-own, first-says, no-call, own-positive, refused-by, refused-keeps, said-exactly, table-says}
@@ -21,16 +22,17 @@ use Rattle.park_encode.specs.Refused.{BufferKept, BufferTooShort, ListEn
 use Rattle.park_encode.proofs.Refusals.{list-first}
 
 abbrev OfList : ℕ → Type 0
-OfList n = (n ≡ 1) ⊎ ((4 ≤ n) × OfTable n)
+OfList n = (n ≡ 1) ⊎ ((4 ≤ n) × ((n ≤ 24) × OfTable n))
 
--- mark and version are always right
+-- mark and version are always right, and there are no generators
 pub list-refusals : ListRefusals
-unfolding listRefusal listRules listPark listHeader headerRules
+unfolding each listRefusal listRules listPark listHeader listOf headerRules
 list-refusals numbers r e =
     first-says OfList (listRules numbers)
     (table-says OfList (hasTooFew numbers) (hasWrongCount numbers) (listPark numbers) (λ e. inl refl)
-    (λ e. absurd (true≢false (sym e)), (λ e. absurd (true≢false (sym e)), (λ e. inr (lit≤ tt, inl (lit≤ tt, lit≤ tt)), (λ e. inr (lit≤ tt, inl (lit≤ tt, lit≤ tt)), (λ e. inr (lit≤ tt, inl (lit≤ tt, lit≤ tt)), (λ e. inr (lit≤ tt, inl (lit≤ tt, lit≤ tt)), (λ e. inr (lit≤ tt, inl (lit≤ tt, lit≤ tt)), (λ e. inr (lit≤ tt, inl (lit≤ tt, lit≤ tt)), tt))))))))
-    (λ n low own. inr (omega arith, own)))
+    (λ e. absurd (true≢false (sym e)), (λ e. absurd (true≢false (sym e)), (λ e. inr (lit≤ tt, (lit≤ tt, inl (lit≤ tt, lit≤ tt))), (λ e. inr (lit≤ tt, (lit≤ tt, inl (lit≤ tt, lit≤ tt))), (λ e. inr (lit≤ tt, (lit≤ tt, inl (lit≤ tt, lit≤ tt))), (λ e. inr (lit≤ tt, (lit≤ tt, inl (lit≤ tt, lit≤ tt))), (λ e. inr (lit≤ tt, (lit≤ tt, inl (lit≤ tt, lit≤ tt))), (λ e. absurd (true≢false (sym e)), (λ e. inr (lit≤ tt, (lit≤ tt, inl (lit≤ tt, lit≤ tt))), tt)))))))))
+    tt
+    (λ n low high own. inr (omega arith, (high, own))))
     e
 
 pub lists-refused : ListsRefused

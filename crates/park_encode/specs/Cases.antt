@@ -1,6 +1,6 @@
 -- Park Alder's list (01, "Park Alder, and its neighbours"), a list with its file byte by byte, lists of a wrong count, lists that differ
--- from Alder's in one number, which is too large for its field and within its limits once it is narrowed, and Alder's with other ends
--- of a line. `list-cases` of proofs/CaseTest.antt proves them.
+-- from Alder's in one number, which is too large for its field and within its limits once it is narrowed, and Alder's with a mark of
+-- version 2 or with other ends of a line. `list-cases` of proofs/CaseTest.antt proves them.
 -- Assumes nothing.
 use Prim.Native.Nat.{ℕ}
 use mathlib.Core.Path.{_≡_}
@@ -65,6 +65,13 @@ pub record ListCases : Type 0 where
   pub to : listRefusal (alderWith 16 257) ≡ some (14, 1)
   pub mark : listRefusal (alderWith 17 263) ≡ some (15, 1)
   pub eerp : listRefusal (alderWith 34 65537) ≡ some (16, 3)
+  -- the marks of version 2
+  pub mark8 : listRefusal (alderWith 17 8) ≡ some (15, 1)
+  pub mark9 : listRefusal (alderWith 17 9) ≡ some (15, 1)
+  pub mark10 : listRefusal (alderWith 17 10) ≡ some (15, 1)
+  pub mark11 : listRefusal (alderWith 17 11) ≡ some (15, 1)
+  pub mark14 : listRefusal (alderWith 25 14) ≡ some (15, 2)
+  pub mark15 : listRefusal (alderWith 25 15) ≡ some (15, 2)
   -- ends: line 2 from site 3 to site 2; line 1 from the network to the network; line 2 from site 2 to itself; line 2 from site 2 to site 1, with a
   -- mark of 5; line 2 from site 2 to itself and line 3 to site 3; line 2 back to the network
   pub above : listRefusal (alderWith 23 3) ≡ some (14, 2)

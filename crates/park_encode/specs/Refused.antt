@@ -13,9 +13,11 @@ use Rattle.park_format.specs.Rules.{firstBroken, headerRules, OfTable, rulesWit
 use Rattle.park_encode.specs.Encode.{bufferAfter, encodeOutcome, hasTooFew, hasWrongCount, IsAcceptedList, listRefusal, madeSize}
 use Rattle.park_encode.specs.Numbers.{headerFields, listCount, listHeader, listPark}
 
--- a list is refused by 1, or by one of the table's rules from 4 on: 2 and 3 cannot occur
+-- a list is refused by 1, or by one of the table's rules from 4 to 24: 2 and 3 cannot occur, nor 25 to 27, since it has no generators
 abbrev pub ListRefusals : Type 0
-ListRefusals = (numbers : List ℕ) (r : ℕ × ℕ) → listRefusal numbers ≡ some r → (r .0 ≡ 1) ⊎ ((4 ≤ r .0) × OfTable (r .0))
+ListRefusals =
+    (numbers : List ℕ) (r : ℕ × ℕ) → listRefusal numbers ≡ some r
+    → (r .0 ≡ 1) ⊎ ((4 ≤ r .0) × ((r .0 ≤ 24) × OfTable (r .0)))
 
 -- what 14, 23 and 24 mean for a list, and that they refuse what 01's one rule for the ends refused: see park_format/specs/Ends.antt
 abbrev pub ListEndsMeant : Type 0

@@ -40,6 +40,7 @@ pub fn header_of(numbers: &[u32]) -> Header
         lines: numbers[2],
         price: numbers[3],
         hours: numbers[4],
+        generators: 0,
     }
 }
 
@@ -98,6 +99,7 @@ pub fn line_of(numbers: &[u32], header: Header, i: usize) -> Line
         reactive: numbers[at + 5],
         generated: numbers[at + 6],
         night: numbers[at + 7],
+        produced: 0,
     }
 }
 
@@ -124,14 +126,14 @@ fn check_sites(numbers: &[u32], header: Header) -> Verdict
 // The first broken rule of the lines, in their order, or, if none is broken, the sites that they go to.
 fn check_lines(numbers: &[u32], header: Header) -> Walked
     requires { ⌜ Counted header (length (now numbers)) ⌝ }
-    ensures { λ r. ⌜ Walks r (firstBroken (each (lineRules (header .sites)) 1 (listOf (listLine header (now (numbers .entry))) (header .lines)))) (listOf (listLine header (now (numbers .entry))) (header .lines)) ⌝ }
+    ensures { λ r. ⌜ Walks r (firstBroken (each (lineRules header) 1 (listOf (listLine header (now (numbers .entry))) (header .lines)))) (listOf (listLine header (now (numbers .entry))) (header .lines)) ⌝ }
 {
     let lines = header.lines as usize;
     let mut fed: u16 = 0;
     let mut i = 0;
     while i < lines {
         let line = line_of(numbers, header, i);
-        let number = line.broken(header.sites);
+        let number = line.broken(header);
         if number != 0 {
             return Walked::Refused(Refusal {
                 number,

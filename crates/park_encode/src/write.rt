@@ -4,7 +4,7 @@ use park_format::file;
 use park_format::header::Header;
 ghost use mathlib.Core.Path.{_≡_};
 ghost use lib.ListN.{length};
-ghost use Rattle.park_format.specs.Format.{siteStart};
+ghost use Rattle.park_format.specs.Format.{headerSize, siteStart};
 ghost use Rattle.park_format.specs.Inner.Sized.{Sized};
 ghost use Rattle.park_format.specs.Inner.Stored.{Stored};
 ghost use Rattle.park_format.specs.Made.{joined, lineBytes, siteBytes};
@@ -17,7 +17,7 @@ ghost use Rattle.park_encode.specs.Numbers.{listHeader, listLine, listSi
 fn write_sites(numbers: &[u32], header: Header, file: &mut [u8])
     requires counted { ⌜ Counted header (length (now numbers)) ⌝ }
     requires room { ⌜ Sized header (length (now file)) ⌝ }
-    ensures { λ _. ⌜ Stored (joined siteBytes (listOf (listSite (now (numbers .entry))) (header .sites))) (siteStart 0) (now (file .entry)) (now (file .exit)) ⌝ }
+    ensures { λ _. ⌜ Stored (joined siteBytes (listOf (listSite (now (numbers .entry))) (header .sites))) (headerSize (header .version)) (now (file .entry)) (now (file .exit)) ⌝ }
 {
     let sites = header.sites as usize;
     let mut k = 0;
@@ -31,7 +31,7 @@ fn write_sites(numbers: &[u32], header: Header, file: &mut [u8])
 fn write_lines(numbers: &[u32], header: Header, file: &mut [u8])
     requires counted { ⌜ Counted header (length (now numbers)) ⌝ }
     requires room { ⌜ Sized header (length (now file)) ⌝ }
-    ensures { λ _. ⌜ Stored (joined lineBytes (listOf (listLine header (now (numbers .entry))) (header .lines))) (siteStart (header .sites)) (now (file .entry)) (now (file .exit)) ⌝ }
+    ensures { λ _. ⌜ Stored (joined (lineBytes 1) (listOf (listLine header (now (numbers .entry))) (header .lines))) (siteStart 1 (header .sites)) (now (file .entry)) (now (file .exit)) ⌝ }
 {
     let lines = header.lines as usize;
     let mut i = 0;

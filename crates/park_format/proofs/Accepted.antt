@@ -8,21 +8,23 @@ use mathlib.Core.Bool.{Bool, true, false, not, _&&_}
 use mathlib.Core.List.{List, [], _∷_, _++_}
 use mathlib.Core.Option.{none}
 use lib.Dec.{eqb, ltb, leb}
-use lib.ListN.{length}
-use Rattle.park_format.specs.Format.{headerSize}
+use lib.ListN.{getD, length}
+use Rattle.park_format.specs.Format.{shortestHeader}
 use Rattle.park_format.specs.Inner.Sized.{Sized}
-use Rattle.park_format.specs.Limits.{months, mostDiscount, mostEerp, mostFlag, mostInstalled, mostLines, mostMark, mostPower, mostPrice, mostReading, mostSites}
+use Rattle.park_format.specs.Limits.{latestVersion, months, mostDiscount, mostEerp, mostFlag, mostGenerators, mostInstalled, mostLines, mostMark, mostPower, mostPrice, mostReading, mostSites}
 use borrow.Author.Tests.{eqb-true, eqb-false, ltb-false, leb-false, not-false, ne-eqb, eq-eqb}
-use Rattle.park_format.specs.Park.{inputs, lineOf, Park, parkOf, siteOf}
-use Rattle.park_format.specs.Rules.{IsAccepted, Row, firstBroken, headerRules, siteRules, lineRules, inputRules, each, fileRules, hasDevices, hasWrongLength, isShort, rulesOf, rulesWith, refusal, startRules, wrongDevice, withoutMeter, measuresReactive, measuresGenerated, measuresNight, isEmpty, parkMark, sizeOf, mostHours, endAbove, bothNetwork, backwards, readingAbove, wrongDevices, wrongMeters, wrongReadings}
+use Rattle.park_format.specs.Park.{generatorOf, inputs, lineOf, noSite, Park, parkOf, siteOf}
+use Rattle.park_format.specs.Rules.{IsAccepted, Row, firstBroken, headerRules, siteRules, lineRules, generatorRules, inputRules, each, fileRules, hasDevices, hasWrongLength, isShort, rulesOf, rulesWith, refusal, startRules, wrongDevice, withoutMeter, measuresReactive, measuresGenerated, measuresNight, measuresProduced, isEmpty, parkMark, sizeOf, mostHours, endAbove, bothNetwork, backwards, readingAbove, wrongDevices, wrongMeters, wrongReadings, zeroOrAbove}
 use Rattle.park_format.specs.Rules.Row.{rule}
-use Rattle.park_format.specs.Accepted.{Every, Guarantee, Kept, KeptHeader, KeptLine, KeptSite}
+use Rattle.park_format.specs.Accepted.{Every, Guarantee, Kept, KeptGenerator, KeptHeader, KeptLine, KeptSite}
 use Rattle.park_format.specs.declared.header.Header.{Header}
 use Rattle.park_format.specs.declared.site.Site.{Site}
 use Rattle.park_format.specs.declared.line.Line.{Line}
+use Rattle.park_format.specs.declared.generator.Generator.{Generator}
 use Rattle.park_format.proofs.Rules.{first-none, within}
 use Rattle.park_format.proofs.Tests.{or-false, and-false}
 use Rattle.park_format.proofs.Lists.{length-listOf}
+use Rattle.park_format.proofs.Sizes.{header-sizes}
 
 -- none of the rows is broken
 abbrev Whole : List Row → Type 0
@@ -51,12 +53,13 @@ module _ (wrongLength : Bool) (h : Header) (sound : firstBroken (headerRules wro
       let w = whole (headerRules wrongLength h) sound in
       record {
         mark = equal (h .mark) parkMark search;
-        version = equal (h .version) 1 search;
+        version = within latestVersion (h .version) search;
         month = within months (h .month) search;
         sites = within mostSites (h .sites) search;
         lines = within mostLines (h .lines) search;
         price = within mostPrice (h .price) search;
         hours = ltb-false (mostHours (h .month)) (h .hours) search;
+        generators = ltb-false mostGenerators (h .generators) search;
         size = same;
       }
 
@@ -65,7 +68,7 @@ kept-header size h sound =
     kept-fields (not (eqb size (sizeOf h))) h sound size (equal size (sizeOf h) (right-length (not (eqb size (sizeOf h))) h sound))
 
 pub kept-sized : {size : ℕ} {h : Header} → KeptHeader size h → Sized h size
-kept-sized k = record { sites = k .sites .1; lines = k .lines .1; size = omega (arith, k .size) }
+kept-sized k = record { sites = k .sites .1; lines = k .lines .1; generators = k .generators; size = omega (arith, k .size) }
 
 -- rule 12 of one of Q and P
 kept-device : (x : Site) (installed : ℕ) → wrongDevice x installed ≡ false → (installed ≤ mostInstalled) × (hasDevices x ≡ false → installed ≡ 0)
@@ -94,25 +97,28 @@ kept-site k x e =
 kept-reading : (metered : Bool) (x : ℕ) → withoutMeter metered x ≡ false → metered ≡ false → x ≡ 0
 kept-reading metered x e f = equal x 0 (and-false (not metered) (not (eqb x 0)) e (ap not f))
 
-pub kept-line : (s k : ℕ) (l : Line) → firstBroken (lineRules s k l) ≡ none → KeptLine s l
+pub kept-line : (h : Header) (k : ℕ) (l : Line) → firstBroken (lineRules h k l) ≡ none → KeptLine h l
 unfolding lineRules
-kept-line s k l e =
-    let w = whole (lineRules s k l) e in
+kept-line h k l e =
+    let w = whole (lineRules h k l) e in
+    let s = h .sites in
     let m = l .meters in
     let rule14 : endAbove s l ≡ false = search in
     let rule23 : bothNetwork l ≡ false = search in
     let rule24 : backwards l ≡ false = search in
-    let rule15 : wrongMeters m ≡ false = search in
+    let rule15 : wrongMeters (h .version) m ≡ false = search in
     let rule17 : readingAbove l ≡ false = search in
     let rule18 : wrongReadings l ≡ false = search in
     let above = or-false (ltb s (l .from)) (ltb s (l .to)) rule14 in
-    let marks = or-false (ltb mostMark m) (measuresNight m && not (measuresGenerated m)) rule15 in
+    let marks = or-false (ltb (mostMark (h .version)) m) (measuresNight m && not (measuresGenerated m)) rule15 in
     let r1 = or-false (ltb mostReading (l .active)) _ rule17 in
     let r2 = or-false (ltb mostReading (l .reactive)) _ (r1 .1) in
     let r3 = or-false (ltb mostReading (l .generated)) _ (r2 .1) in
+    let r4 = or-false (ltb mostReading (l .night)) _ (r3 .1) in
     let m1 = or-false (withoutMeter (measuresReactive m) (l .reactive)) _ rule18 in
     let m2 = or-false (withoutMeter (measuresGenerated m) (l .generated)) _ (m1 .1) in
     let m3 = or-false (withoutMeter (measuresNight m) (l .night)) _ (m2 .1) in
+    let m4 = or-false (withoutMeter (measuresProduced m) (l .produced)) _ (m3 .1) in
     record {
       from = ltb-false s (l .from) (above .0);
       to = ltb-false s (l .to) (above .1);
@@ -122,17 +128,31 @@ kept-line s k l e =
           (and-false (not (eqb (l .to) 0)) (leb (l .to) (l .from))
           (and-false (not (eqb (l .from) 0)) (not (eqb (l .to) 0) && leb (l .to) (l .from)) rule24 (ap not (ne-eqb (l .from) 0 a)))
           (ap not (ne-eqb (l .to) 0 b)));
-      meters = ltb-false mostMark m (marks .0);
+      meters = ltb-false (mostMark (h .version)) m (marks .0);
       nightGenerated = λ n. not-false (measuresGenerated m) (and-false (measuresNight m) (not (measuresGenerated m)) (marks .1) n);
       eerp = within mostEerp (l .eerp) search;
       active = ltb-false mostReading (l .active) (r1 .0);
       reactive = ltb-false mostReading (l .reactive) (r2 .0);
       generated = ltb-false mostReading (l .generated) (r3 .0);
-      night = ltb-false mostReading (l .night) (r3 .1);
+      night = ltb-false mostReading (l .night) (r4 .0);
+      produced = ltb-false mostReading (l .produced) (r4 .1);
       unmeteredReactive = kept-reading (measuresReactive m) (l .reactive) (m1 .0);
       unmeteredGenerated = kept-reading (measuresGenerated m) (l .generated) (m2 .0);
       unmeteredNight = kept-reading (measuresNight m) (l .night) (m3 .0);
-      nightWithin = ltb-false (l .generated) (l .night) (m3 .1);
+      unmeteredProduced = kept-reading (measuresProduced m) (l .produced) (m4 .0);
+      nightWithin = ltb-false (l .generated) (l .night) (m4 .1);
+    }
+
+pub kept-generator : (h : Header) (sites : List Site) (k : ℕ) (g : Generator) → firstBroken (generatorRules h sites k g) ≡ none → KeptGenerator h sites g
+unfolding generatorRules
+kept-generator h sites k g e =
+    let w = whole (generatorRules h sites k g) e in
+    let devices = hasDevices (getD sites (g .site - 1) noSite) in
+    let rule26 = or-false (zeroOrAbove (h .sites) (g .site)) (not devices) (w .0) in
+    record {
+      site = within (h .sites) (g .site) (rule26 .0);
+      devices = not-false devices (rule26 .1);
+      output = ltb-false mostReading (g .output) (w .1 .0);
     }
 
 module _ {ℓ} {A : Type ℓ} (g : ℕ → A → List Row) where
@@ -158,7 +178,8 @@ pub record Parts (short wrongLength : Bool) (p : Park) : Type 0 where
   pub start : short ≡ false
   pub header : firstBroken (headerRules wrongLength (p .header)) ≡ none
   pub sites : firstBroken (each siteRules 1 (p .sites)) ≡ none
-  pub lines : firstBroken (each (lineRules (p .header .sites)) 1 (p .lines)) ≡ none
+  pub lines : firstBroken (each (lineRules (p .header)) 1 (p .lines)) ≡ none
+  pub generators : firstBroken (each (generatorRules (p .header) (p .sites)) 1 (p .generators)) ≡ none
   pub inputs : firstBroken (each (inputRules (p .lines)) 1 (p .sites)) ≡ none
 
 pub parts : (short wrongLength : Bool) (p : Park) → firstBroken (rulesOf short wrongLength p) ≡ none → Parts short wrongLength p
@@ -167,24 +188,28 @@ parts short wrongLength p e =
     let start = startRules short in
     let header = headerRules wrongLength (p .header) in
     let sites = each siteRules 1 (p .sites) in
-    let lines = each (lineRules (p .header .sites)) 1 (p .lines) in
+    let lines = each (lineRules (p .header)) 1 (p .lines) in
+    let generators = each (generatorRules (p .header) (p .sites)) 1 (p .generators) in
     let inputs = each (inputRules (p .lines)) 1 (p .sites) in
-    let a = first-none (start ++ header) (sites ++ (lines ++ inputs)) e in
-    let b = first-none sites (lines ++ inputs) (a .1) in
-    let c = first-none lines inputs (b .1) in
+    let a = first-none (start ++ header) (sites ++ (lines ++ (generators ++ inputs))) e in
+    let b = first-none sites (lines ++ (generators ++ inputs)) (a .1) in
+    let c = first-none lines (generators ++ inputs) (b .1) in
+    let f = first-none generators inputs (c .1) in
     let d = first-none start header (a .0) in
-    record { start = whole start (d .0) .0; header = d .1; sites = b .0; lines = c .0; inputs = c .1 }
+    record { start = whole start (d .0) .0; header = d .1; sites = b .0; lines = c .0; generators = f .0; inputs = f .1 }
 
 -- such a park keeps every rule
-pub kept-park : {short wrongLength : Bool} (p : Park) (size : ℕ) → Parts short wrongLength p → size ≡ sizeOf (p .header) → length (p .sites) ≡ p .header .sites → length (p .lines) ≡ p .header .lines → Kept size p
-kept-park {wrongLength = wrongLength} p size is same siteCount lineCount =
+pub kept-park : {short wrongLength : Bool} (p : Park) (size : ℕ) → Parts short wrongLength p → size ≡ sizeOf (p .header) → length (p .sites) ≡ p .header .sites → length (p .lines) ≡ p .header .lines → length (p .generators) ≡ p .header .generators → Kept size p
+kept-park {wrongLength = wrongLength} p size is same siteCount lineCount generatorCount =
     let h = p .header in
     record {
       header = kept-fields wrongLength h (is .header) size same;
       siteCount = siteCount;
       lineCount = lineCount;
+      generatorCount = generatorCount;
       sites = each-kept siteRules KeptSite kept-site 1 (p .sites) (is .sites);
-      lines = each-kept (lineRules (h .sites)) (KeptLine (h .sites)) (kept-line (h .sites)) 1 (p .lines) (is .lines);
+      lines = each-kept (lineRules h) (KeptLine h) (kept-line h) 1 (p .lines) (is .lines);
+      generators = each-kept (generatorRules h (p .sites)) (KeptGenerator h (p .sites)) (kept-generator h (p .sites)) 1 (p .generators) (is .generators);
       fed = λ k low high. rw (← (add-sub-of-le low)) (fed-from (p .lines) 1 (k - 1) (p .sites) (is .inputs) (omega arith));
     }
 
@@ -197,7 +222,10 @@ kept file e =
     kept-park p (length file) is
     (equal (length file) (sizeOf (p .header)) (right-length (hasWrongLength file) (p .header) (is .header)))
     (length-listOf (siteOf (p .header) file) (p .header .sites)) (length-listOf (lineOf (p .header) file) (p .header .lines))
+    (length-listOf (generatorOf (p .header) file) (p .header .generators))
 
 -- an accepted file is long enough for its header
-pub header-fits : (file : List ℕ) → IsAccepted file → headerSize ≤ length file
-header-fits file accepted = omega (arith, kept file accepted .header .size)
+pub header-fits : (file : List ℕ) → IsAccepted file → shortestHeader ≤ length file
+header-fits file accepted =
+    let h = parkOf file .header in
+    omega (arith, kept file accepted .header .size, header-sizes (h .version))

@@ -36,7 +36,7 @@ length-bytesFor (w ∷ ws) [] e = absurd (omega arith)
 length-bytesFor (w ∷ ws) (n ∷ ns) e = rw (length-append, length-bytesOf, length-bytesFor ws ns (omega arith))
 
 -- read from what was written, anywhere in a list
-number-bytes : (w n : ℕ) (pre post : List ℕ) → n < 256 ^ w → numberAt w (pre ++ (bytesOf w n ++ post)) (length pre) ≡ n
+pub number-bytes : (w n : ℕ) (pre post : List ℕ) → n < 256 ^ w → numberAt w (pre ++ (bytesOf w n ++ post)) (length pre) ≡ n
 unfolding numberAt bytesOf
 number-bytes zero n pre post h = omega arith
 number-bytes (suc w) n pre post h =

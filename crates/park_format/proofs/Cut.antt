@@ -10,13 +10,15 @@ use borrow.Author.Tests.{eq-eqb, ne-eqb}
 use lib.Dec.{eqb}
 use lib.ListN.{length, take}
 use lib.Seq.{getD-take, length-take-le}
-use Rattle.park_format.specs.Format.{fieldsAt, headerWidths, numberAt, total}
-use Rattle.park_format.specs.Park.{headerFrom, headerOf, lineOf, siteOf}
+use Rattle.park_format.specs.Format.{fieldsAt, headerSize, headerWidths, numberAt, total, versionOf}
+use Rattle.park_format.specs.Park.{generatorOf, headerFrom, headerOf, lineOf, siteOf}
 use Rattle.park_format.specs.Rules.{Row, firstBroken, hasWrongLength, headerRules, refusal, sizeOf}
 use Rattle.park_format.specs.Rules.Row.{rule}
 use Rattle.park_format.specs.Cut.{CutRefusal, longest}
+use Rattle.park_format.specs.Limits.{mostLines}
 use Rattle.park_format.specs.declared.header.Header.{Header}
 use Rattle.park_format.proofs.Accepted.{kept-header}
+use Rattle.park_format.proofs.Sizes.{header-sizes, latest-sizes, lines-most}
 use Rattle.park_format.proofs.Rules.{first-append, first-stays}
 use Rattle.park_format.proofs.Verdict.{file-table, header-refused}
 
@@ -33,23 +35,26 @@ fields-cut [] bytes file at h = refl
 fields-cut (w ∷ ws) bytes file at h = ap₂ _∷_ (number-cut w bytes file at (omega arith)) (fields-cut ws bytes file (at + w) (omega arith))
 
 header-cut : (bytes : ℕ) → longest < bytes → (file : List ℕ) → headerOf file ≡ headerOf (take bytes file)
-unfolding headerOf
-header-cut bytes more file = ap headerFrom (sym (fields-cut headerWidths bytes file 0 (omega arith)))
+unfolding headerOf headerSize
+header-cut bytes more file =
+    let same = number-cut 2 bytes file 3 (omega arith) in
+    let fields = fields-cut (headerWidths (versionOf file)) bytes file 0 (omega (arith, header-sizes (versionOf file))) in
+    ap headerFrom (sym (ap (λ (v : ℕ). fieldsAt (headerWidths v) (take bytes file) 0) same ∙ fields))
 
--- rules 2 to 8
+-- rules 2 to 8 and 25
 abbrev before-length : Header → List Row
-before-length h = take 7 (headerRules false h)
+before-length h = take 8 (headerRules false h)
 
 abbrev length-row : ℕ → Header → List Row
 length-row n h = rule 9 0 (not (eqb n (sizeOf h))) ∷ []
 
--- a header that keeps 2 to 8 is that of no longer file
+-- a header that keeps 2 to 8 and 25 is that of no longer file
 size-kept : (h : Header) → firstBroken (before-length h) ≡ none → sizeOf h ≤ longest
 unfolding headerRules firstBroken
 size-kept h e =
     let all : firstBroken (headerRules (not (eqb (sizeOf h) (sizeOf h))) h) ≡ none = first-append (before-length h) (length-row (sizeOf h) h) e ∙ rw (eq-eqb (sizeOf h) (sizeOf h) refl) in
     let k = kept-header (sizeOf h) h all in
-    omega arith
+    omega (arith, k .sites, k .lines, k .generators, latest-sizes, header-sizes (h .version), lines-most (h .version) (h .lines) mostLines (k .lines .1))
 
 -- so every longer file with that header has the same refusal
 header-long : (h : Header) → (r : ℕ × ℕ) × ((n : ℕ) → longest < n → some r ≡ firstBroken (headerRules (not (eqb n (sizeOf h))) h))
@@ -65,7 +70,7 @@ header-long h = by (firstBroken (before-length h)) refl
 -- and that refusal is the file's
 long-refused : (file : List ℕ) (h : Header) → h ≡ headerOf file → longest < length file → refusal file ≡ some (header-long h .0)
 long-refused file h read more =
-    sym (header-refused (hasWrongLength file) h (siteOf h file) (lineOf h file) (file-table file h read (omega arith)) (header-long h .1 (length file) more ∙ ap (λ (x : Header). firstBroken (headerRules (not (eqb (length file) (sizeOf x))) h)) read))
+    sym (header-refused (hasWrongLength file) h (siteOf h file) (lineOf h file) (generatorOf h file) (file-table file h read (omega arith)) (header-long h .1 (length file) more ∙ ap (λ (x : Header). firstBroken (headerRules (not (eqb (length file) (sizeOf x))) h)) read))
 
 pub cut-refusal : CutRefusal
 cut-refusal bytes more file longer =

@@ -12,7 +12,8 @@ use lib.Dec.{eqb, leb, lit≤, ltb}
 use lib.ListN.{getD}
 use Rattle.park_format.specs.Ends.{BothNetwork, EndAbove, EndsMeant, EndsTold, FileEndsMeant, Meant, OutOfOrder}
 use Rattle.park_format.specs.Park.{noLine, Park}
-use Rattle.park_format.specs.Rules.{backwards, bothNetwork, each, endAbove, fileRules, firstBroken, headerRules, inputRules, lineRules, refusal, rulesOf, rulesWith, siteRules, startRules}
+use Rattle.park_format.specs.Rules.{backwards, bothNetwork, each, endAbove, fileRules, firstBroken, generatorRules, headerRules, inputRules, lineRules, refusal, rulesOf, rulesWith, siteRules, startRules}
+use Rattle.park_format.specs.declared.header.Header.{Header}
 use Rattle.park_format.specs.declared.line.Line.{Line}
 use Rattle.park_format.proofs.Rules.{each-at, first-part, same-refusal}
 use Rattle.park_format.proofs.Said.{each-says, first-says}
@@ -53,23 +54,26 @@ module _ (s : ℕ) (l : Line) where
       (omega (arith, site), (leb-true (l .to) (l .from) (order .1), from))
 
 -- which rule is told of a line, by those tests
-module _ (s k : ℕ) (l : Line) where
-  told-14 : endAbove s l ≡ true → firstBroken (lineRules s k l) ≡ some (14, k)
+module _ (h : Header) (k : ℕ) (l : Line) where
+  abbrev s : ℕ
+  s = h .sites
+
+  told-14 : endAbove s l ≡ true → firstBroken (lineRules h k l) ≡ some (14, k)
   unfolding lineRules firstBroken
   told-14 above = rw above
 
-  told-23 : endAbove s l ≡ false → bothNetwork l ≡ true → firstBroken (lineRules s k l) ≡ some (23, k)
+  told-23 : endAbove s l ≡ false → bothNetwork l ≡ true → firstBroken (lineRules h k l) ≡ some (23, k)
   unfolding lineRules firstBroken
   told-23 within network = rw (within, network)
 
-  told-24 : endAbove s l ≡ false → bothNetwork l ≡ false → backwards l ≡ true → firstBroken (lineRules s k l) ≡ some (24, k)
+  told-24 : endAbove s l ≡ false → bothNetwork l ≡ false → backwards l ≡ true → firstBroken (lineRules h k l) ≡ some (24, k)
   unfolding lineRules firstBroken
   told-24 within site back = rw (within, site, back)
 
-  told-none : endAbove s l ≡ false → bothNetwork l ≡ false → backwards l ≡ false → {r : ℕ × ℕ} → firstBroken (lineRules s k l) ≡ some r → (15 ≤ r .0) × (r .0 ≤ 18)
+  told-none : endAbove s l ≡ false → bothNetwork l ≡ false → backwards l ≡ false → {r : ℕ × ℕ} → firstBroken (lineRules h k l) ≡ some r → (15 ≤ r .0) × (r .0 ≤ 18)
   unfolding lineRules
   told-none within site forward e =
-      first-says (λ (n : ℕ). (15 ≤ n) × (n ≤ 18)) (lineRules s k l)
+      first-says (λ (n : ℕ). (15 ≤ n) × (n ≤ 18)) (lineRules h k l)
       (λ t. absurd (true≢false (sym t ∙ within)), (λ t. absurd (true≢false (sym t ∙ site)), (λ t. absurd (true≢false (sym t ∙ forward)), (λ t. (lit≤ tt, lit≤ tt), (λ t. (lit≤ tt, lit≤ tt), (λ t. (lit≤ tt, lit≤ tt), (λ t. (lit≤ tt, lit≤ tt), tt))))))) e
 
   -- and all that can be told
@@ -78,7 +82,7 @@ module _ (s k : ℕ) (l : Line) where
       ((r ≡ (14, k)) × EndAbove s l)
       ⊎ (((r ≡ (23, k)) × BothNetwork l) ⊎ (((r ≡ (24, k)) × OutOfOrder s l) ⊎ ((15 ≤ r .0) × (r .0 ≤ 18))))
 
-  told : (r : ℕ × ℕ) → firstBroken (lineRules s k l) ≡ some r → By r
+  told : (r : ℕ × ℕ) → firstBroken (lineRules h k l) ≡ some r → By r
   told r e = by (endAbove s l) refl (bothNetwork l) refl (backwards l) refl
     where
       by : (a : Bool) → endAbove s l ≡ a → (b : Bool) → bothNetwork l ≡ b → (c : Bool) → backwards l ≡ c → By r
@@ -88,32 +92,33 @@ module _ (s k : ℕ) (l : Line) where
       by false a false b false c = inr (inr (inr (told-none a b c e)))
 
 pub ends-told : EndsTold
-ends-told s k l =
+ends-told h k l =
+    let s = h .sites in
     record {
       above = λ place. (
         λ e.
             ⊎-elim (λ x. (placed (x .0), x .1))
             (⊎-elim (λ x. absurd (omega (arith, numbered (x .0)))) (⊎-elim (λ x. absurd (omega (arith, numbered (x .0)))) (λ x. absurd (omega (arith, x .0)))))
-            (told s k l (14, place) e),
-        λ h. told-14 s k l (above s l (h .1)) ∙ ap (λ (m : ℕ). some (14, m)) (sym (h .0)),
+            (told h k l (14, place) e),
+        λ q. told-14 h k l (above s l (q .1)) ∙ ap (λ (m : ℕ). some (14, m)) (sym (q .0)),
       );
       network = λ place. (
         λ e.
             ⊎-elim (λ x. absurd (omega (arith, numbered (x .0))))
             (⊎-elim (λ x. (placed (x .0), x .1)) (⊎-elim (λ x. absurd (omega (arith, numbered (x .0)))) (λ x. absurd (omega (arith, x .1)))))
-            (told s k l (23, place) e),
-        λ h.
-            told-23 s k l (within s l (omega (arith, h .1 .0)) (omega (arith, h .1 .1))) (network s l (h .1))
-            ∙ ap (λ (m : ℕ). some (23, m)) (sym (h .0)),
+            (told h k l (23, place) e),
+        λ q.
+            told-23 h k l (within s l (omega (arith, q .1 .0)) (omega (arith, q .1 .1))) (network s l (q .1))
+            ∙ ap (λ (m : ℕ). some (23, m)) (sym (q .0)),
       );
       outOfOrder = λ place. (
         λ e.
             ⊎-elim (λ x. absurd (omega (arith, numbered (x .0))))
             (⊎-elim (λ x. absurd (omega (arith, numbered (x .0)))) (⊎-elim (λ x. (placed (x .0), x .1)) (λ x. absurd (omega (arith, x .1)))))
-            (told s k l (24, place) e),
-        λ h.
-            told-24 s k l (within s l (h .1 .1 .1) (omega (arith, h .1 .1 .0, h .1 .1 .1))) (no-network s l (h .1)) (out-of-order s l (h .1))
-            ∙ ap (λ (m : ℕ). some (24, m)) (sym (h .0)),
+            (told h k l (24, place) e),
+        λ q.
+            told-24 h k l (within s l (q .1 .1 .1) (omega (arith, q .1 .1 .0, q .1 .1 .1))) (no-network s l (q .1)) (out-of-order s l (q .1))
+            ∙ ap (λ (m : ℕ). some (24, m)) (sym (q .0)),
       );
     }
   where
@@ -125,31 +130,31 @@ ends-told s k l =
 
 -- the numbers of all other rows
 abbrev Other : ℕ → Type 0
-Other n = (n ≤ 13) ⊎ (n ≡ 19)
+Other n = (n ≤ 13) ⊎ ((n ≡ 19) ⊎ (25 ≤ n))
 
 module _ (short wrongLength : Bool) (p : Park) where
-  abbrev s : ℕ
-  s = p .header .sites
-
   -- what no other row refuses is refused by a line's
-  in-lines : {r : ℕ × ℕ} → (Other (r .0) → ⊥) → firstBroken (rulesOf short wrongLength p) ≡ some r → firstBroken (each (lineRules s) 1 (p .lines)) ≡ some r
-  unfolding rulesWith headerRules siteRules inputRules
+  in-lines : {r : ℕ × ℕ} → (Other (r .0) → ⊥) → firstBroken (rulesOf short wrongLength p) ≡ some r → firstBroken (each (lineRules (p .header)) 1 (p .lines)) ≡ some r
+  unfolding rulesWith headerRules siteRules generatorRules inputRules
   in-lines apart e =
       let start = startRules short ++ headerRules wrongLength (p .header) in
       let sites = each siteRules 1 (p .sites) in
-      let lines = each (lineRules s) 1 (p .lines) in
+      let lines = each (lineRules (p .header)) 1 (p .lines) in
+      let generators = each (generatorRules (p .header) (p .sites)) 1 (p .generators) in
       let inputs = each (inputRules (p .lines)) 1 (p .sites) in
-      ⊎-elim (λ h. absurd (apart (first-says Other start (λ t. inl (lit≤ tt), (λ t. inl (lit≤ tt), (λ t. inl (lit≤ tt), (λ t. inl (lit≤ tt), (λ t. inl (lit≤ tt), (λ t. inl (lit≤ tt), (λ t. inl (lit≤ tt), (λ t. inl (lit≤ tt), (λ t. inl (lit≤ tt), tt))))))))) h)))
+      ⊎-elim (λ h. absurd (apart (first-says Other start (λ t. inl (lit≤ tt), (λ t. inl (lit≤ tt), (λ t. inl (lit≤ tt), (λ t. inl (lit≤ tt), (λ t. inl (lit≤ tt), (λ t. inl (lit≤ tt), (λ t. inl (lit≤ tt), (λ t. inl (lit≤ tt), (λ t. inr (inr (lit≤ tt)), (λ t. inl (lit≤ tt), tt)))))))))) h)))
       (λ after. ⊎-elim (λ h. absurd (apart (first-says Other sites (each-says Other siteRules (λ k x. (λ t. inl (lit≤ tt), (λ t. inl (lit≤ tt), (λ t. inl (lit≤ tt), (λ t. inl (lit≤ tt), tt))))) 1 (p .sites)) h)))
       (λ after. ⊎-elim (λ h. h)
-      (λ h. absurd (apart (first-says Other inputs (each-says Other (inputRules (p .lines)) (λ k x. (λ t. inr refl, tt)) 1 (p .sites)) h)))
-      (first-part lines inputs after))
-      (first-part sites (lines ++ inputs) after))
-      (first-part start (sites ++ (lines ++ inputs)) e)
+      (λ after. ⊎-elim (λ h. absurd (apart (first-says Other generators (each-says Other (generatorRules (p .header) (p .sites)) (λ k g. (λ t. inr (inr (lit≤ tt)), (λ t. inr (inr (lit≤ tt)), tt))) 1 (p .generators)) h)))
+      (λ h. absurd (apart (first-says Other inputs (each-says Other (inputRules (p .lines)) (λ k x. (λ t. inr (inl refl), tt)) 1 (p .sites)) h)))
+      (first-part generators inputs after))
+      (first-part lines (generators ++ inputs) after))
+      (first-part sites (lines ++ (generators ++ inputs)) after))
+      (first-part start (sites ++ (lines ++ (generators ++ inputs))) e)
 
-  meant : (Fault : Line → Type 0) {n place : ℕ} → (Other n → ⊥) → ((k : ℕ) (l : Line) → firstBroken (lineRules s k l) ≡ some (n, place) → (place ≡ k) × Fault l) → firstBroken (rulesOf short wrongLength p) ≡ some (n, place) → Meant p place Fault
+  meant : (Fault : Line → Type 0) {n place : ℕ} → (Other n → ⊥) → ((k : ℕ) (l : Line) → firstBroken (lineRules (p .header) k l) ≡ some (n, place) → (place ≡ k) × Fault l) → firstBroken (rulesOf short wrongLength p) ≡ some (n, place) → Meant p place Fault
   meant Fault {n} {place} apart line e =
-      each-at (lineRules s) noLine 1 (p .lines) (in-lines apart e)
+      each-at (lineRules (p .header)) noLine 1 (p .lines) (in-lines apart e)
       (λ i inside here.
       let h = line (1 + i) (getD (p .lines) i noLine) here in
       record {
@@ -161,13 +166,13 @@ pub ends-meant : EndsMeant
 ends-meant short wrongLength p =
     let s = p .header .sites in
     record {
-      above = λ place. meant short wrongLength p (EndAbove s) (apart 14 (lit≤ tt) (λ e. omega arith)) (λ k l. ends-told s k l .above place .0);
-      network = λ place. meant short wrongLength p BothNetwork (apart 23 (lit≤ tt) (λ e. omega arith)) (λ k l. ends-told s k l .network place .0);
-      outOfOrder = λ place. meant short wrongLength p (OutOfOrder s) (apart 24 (lit≤ tt) (λ e. omega arith)) (λ k l. ends-told s k l .outOfOrder place .0);
+      above = λ place. meant short wrongLength p (EndAbove s) (apart 14 (lit≤ tt) (lit≤ tt) (λ e. omega arith)) (λ k l. ends-told (p .header) k l .above place .0);
+      network = λ place. meant short wrongLength p BothNetwork (apart 23 (lit≤ tt) (lit≤ tt) (λ e. omega arith)) (λ k l. ends-told (p .header) k l .network place .0);
+      outOfOrder = λ place. meant short wrongLength p (OutOfOrder s) (apart 24 (lit≤ tt) (lit≤ tt) (λ e. omega arith)) (λ k l. ends-told (p .header) k l .outOfOrder place .0);
     }
   where
-    apart : (n : ℕ) → 14 ≤ n → (n ≡ 19 → ⊥) → Other n → ⊥
-    apart n high other = ⊎-elim (λ low. omega arith) other
+    apart : (n : ℕ) → 14 ≤ n → n ≤ 24 → (n ≡ 19 → ⊥) → Other n → ⊥
+    apart n high most other = ⊎-elim (λ low. omega arith) (⊎-elim other (λ above. omega arith))
 
 pub file-ends-meant : FileEndsMeant
 unfolding refusal fileRules

@@ -8,8 +8,9 @@ use mathlib.Core.Option.{Option, none, some}
 use lib.ListN.{drop}
 use Rattle.park_format.specs.Accepted.{Every}
 use Rattle.park_format.specs.Ends.{SameFilesRefused, SameRefused, formerLineRules, formerNumber, formerly}
-use Rattle.park_format.specs.Rules.{Row, backwards, bothNetwork, each, endAbove, fileRules, firstBroken, headerRules, inputRules, lineRules, refusal, rulesWith, siteRules, startRules}
+use Rattle.park_format.specs.Rules.{Row, backwards, bothNetwork, each, endAbove, fileRules, firstBroken, generatorRules, headerRules, inputRules, lineRules, refusal, rulesWith, siteRules, startRules}
 use Rattle.park_format.specs.Rules.Row.{rule}
+use Rattle.park_format.specs.declared.header.Header.{Header}
 use Rattle.park_format.specs.declared.line.Line.{Line}
 use Rattle.park_format.proofs.Rules.{first-append, first-stays}
 use Rattle.park_format.proofs.Said.{Says, first-says}
@@ -53,27 +54,30 @@ agree-ends k false true c rows same = refl
 agree-ends k false false true rows same = refl
 agree-ends k false false false rows same = same
 
-agree-line : (s k : ℕ) (l : Line) → Agree (formerLineRules s k l) (lineRules s k l)
+agree-line : (h : Header) (k : ℕ) (l : Line) → Agree (formerLineRules h k l) (lineRules h k l)
 unfolding lineRules
-agree-line s k l =
-    agree-ends k (endAbove s l) (bothNetwork l) (backwards l) _
-    (agree-same (drop 3 (lineRules s k l)) (λ e. refl, (λ e. refl, (λ e. refl, (λ e. refl, tt)))))
+agree-line h k l =
+    agree-ends k (endAbove (h .sites) l) (bothNetwork l) (backwards l) _
+    (agree-same (drop 3 (lineRules h k l)) (λ e. refl, (λ e. refl, (λ e. refl, (λ e. refl, tt)))))
 
 pub same-refused : SameRefused
-unfolding rulesWith siteRules headerRules inputRules
+unfolding rulesWith siteRules headerRules generatorRules inputRules
 same-refused short wrongLength p =
-    let start = startRules short ++ headerRules wrongLength (p .header) in
+    let h = p .header in
+    let start = startRules short ++ headerRules wrongLength h in
     let sites = each siteRules 1 (p .sites) in
-    let s = p .header .sites in
-    let former = each (formerLineRules s) 1 (p .lines) in
-    let lines = each (lineRules s) 1 (p .lines) in
+    let former = each (formerLineRules h) 1 (p .lines) in
+    let lines = each (lineRules h) 1 (p .lines) in
+    let generators = each (generatorRules h (p .sites)) 1 (p .generators) in
     let inputs = each (inputRules (p .lines)) 1 (p .sites) in
-    agree-join start start (sites ++ (former ++ inputs)) (sites ++ (lines ++ inputs))
-    (agree-same start (λ e. refl, (λ e. refl, (λ e. refl, (λ e. refl, (λ e. refl, (λ e. refl, (λ e. refl, (λ e. refl, (λ e. refl, tt))))))))))
-    (agree-join sites sites (former ++ inputs) (lines ++ inputs)
+    agree-join start start (sites ++ (former ++ (generators ++ inputs))) (sites ++ (lines ++ (generators ++ inputs)))
+    (agree-same start (λ e. refl, (λ e. refl, (λ e. refl, (λ e. refl, (λ e. refl, (λ e. refl, (λ e. refl, (λ e. refl, (λ e. refl, (λ e. refl, tt)))))))))))
+    (agree-join sites sites (former ++ (generators ++ inputs)) (lines ++ (generators ++ inputs))
     (agree-each siteRules siteRules (λ k x. agree-same (siteRules k x) (λ e. refl, (λ e. refl, (λ e. refl, (λ e. refl, tt))))) 1 (p .sites))
-    (agree-join former lines inputs inputs (agree-each (formerLineRules s) (lineRules s) (agree-line s) 1 (p .lines))
-    (agree-each (inputRules (p .lines)) (inputRules (p .lines)) (λ k x. agree-same (inputRules (p .lines) k x) (λ e. refl, tt)) 1 (p .sites))))
+    (agree-join former lines (generators ++ inputs) (generators ++ inputs) (agree-each (formerLineRules h) (lineRules h) (agree-line h) 1 (p .lines))
+    (agree-join generators generators inputs inputs
+    (agree-each (generatorRules h (p .sites)) (generatorRules h (p .sites)) (λ k g. agree-same (generatorRules h (p .sites) k g) (λ e. refl, (λ e. refl, tt))) 1 (p .generators))
+    (agree-each (inputRules (p .lines)) (inputRules (p .lines)) (λ k x. agree-same (inputRules (p .lines) k x) (λ e. refl, tt)) 1 (p .sites)))))
 
 pub same-files-refused : SameFilesRefused
 unfolding refusal fileRules

@@ -2,6 +2,7 @@ pub mod Tests
 pub mod Lists
 pub mod Bits
 pub mod Rules
+pub mod Sizes
 pub mod Records
 pub mod Entries
 pub mod Accepted
@@ -11,6 +12,8 @@ pub mod Bytes
 pub mod Stores
 pub mod Joined
 pub mod Made
+pub mod Again
+pub mod First
 pub mod Fits
 pub mod Call
 pub mod Said

@@ -62,6 +62,11 @@ module _ {ℓ} {A : Type ℓ} where
   every-map P Q gives [] e = tt
   every-map P Q gives (x ∷ xs) e = (gives x (e .0), every-map P Q gives xs (e .1))
 
+  -- two things that hold of each value, the second where something holds
+  pub every-both : (P Q : A → Type 0) {C : Type 0} (xs : List A) → Every P xs → (C → Every Q xs) → Every (λ (x : A). P x × (C → Q x)) xs
+  every-both P Q [] e f = tt
+  every-both P Q (x ∷ xs) e f = ((e .0, λ c. f c .0), every-both P Q xs (e .1) (λ c. f c .1))
+
   pub every-all : {P : A → Type 0} → ((x : A) → P x) → (xs : List A) → Every P xs
   every-all holds [] = tt
   every-all holds (x ∷ xs) = (holds x, every-all holds xs)
@@ -93,3 +98,10 @@ module _ {ℓ} {A : Type ℓ} where
       ∙ sym (take-add i (j + k) l)
       ∙ ap (λ (n : ℕ). take n l) (sym (add-assoc i j k) ∙ all)
       ∙ take-length l
+
+  -- and in four
+  pub four-parts : (l : List A) (i j k m : ℕ) → i + j + k + m ≡ length l → take i l ++ (take j (drop i l) ++ (take k (drop (i + j) l) ++ take m (drop (i + j + k) l))) ≡ l
+  four-parts l i j k m all =
+      ap (λ (part : List A). take i l ++ (take j (drop i l) ++ (take k (drop (i + j) l) ++ take m part))) (sym (drop-drop k (i + j) l))
+      ∙ ap (λ (rest : List A). take i l ++ (take j (drop i l) ++ rest)) (sym (take-add k m (drop (i + j) l)))
+      ∙ three-parts l i j (k + m) (sym (add-assoc (i + j) k m) ∙ all)

@@ -7,13 +7,13 @@ use mathlib.Core.Path.{_≡_, refl, sym, ap, subst, _∙_}
 use mathlib.Core.Bool.{Bool, true, false, cond, _&&_, _||_, true≢false}
 use mathlib.Core.List.{List, [], _∷_, _++_}
 use mathlib.Core.Option.{Option, none, some}
-use borrow.Author.Tests.{leb-true}
-use lib.Dec.{leb, lit≤}
+use borrow.Author.Tests.{eqb-false, leb-true}
+use lib.Dec.{eqb, leb, lit≤}
 use lib.ListN.{take}
 use Rattle.park_format.specs.Accepted.{Every}
 use Rattle.park_format.specs.Call.{answer, refusalWith, unlessRefused}
 use Rattle.park_format.specs.Park.{Park}
-use Rattle.park_format.specs.Rules.{Row, each, firstBroken, headerRules, inputRules, lineRules, OfTable, rulesOf, rulesWith, siteRules, startRules}
+use Rattle.park_format.specs.Rules.{Row, each, firstBroken, generatorRules, headerRules, inputRules, lineRules, OfTable, rulesOf, rulesWith, siteRules, startRules}
 use Rattle.park_format.specs.Rules.Row.{rule}
 use Rattle.park_format.specs.declared.header.Header.{Header}
 use Rattle.park_format.proofs.Call.{call-allows, call-refuses, rules-first}
@@ -22,14 +22,14 @@ use Rattle.park_format.proofs.Rules.{first-append, first-none, first-st
 use Rattle.park_format.proofs.Tests.{and-both}
 
 -- one of the table's numbers, by looking at it
-listed : (n : ℕ) → ((leb 1 n && leb n 19) || (leb 23 n && leb n 24)) ≡ true → OfTable n
+listed : (n : ℕ) → ((leb 1 n && leb n 19) || (leb 23 n && leb n 27)) ≡ true → OfTable n
 listed n e = by (leb 1 n && leb n 19) refl
   where
     by : (b : Bool) → (leb 1 n && leb n 19) ≡ b → OfTable n
     by true q = let h = and-both (leb 1 n) (leb n 19) q in inl (leb-true 1 n (h .0), leb-true n 19 (h .1))
     by false q =
-        let h = and-both (leb 23 n) (leb n 24) (ap (λ (b : Bool). b || (leb 23 n && leb n 24)) (sym q) ∙ e) in
-        inr (leb-true 23 n (h .0), leb-true n 24 (h .1))
+        let h = and-both (leb 23 n) (leb n 27) (ap (λ (b : Bool). b || (leb 23 n && leb n 27)) (sym q) ∙ e) in
+        inr (leb-true 23 n (h .0), leb-true n 27 (h .1))
 
 module _ (P : ℕ → Type 0) where
   -- P holds of the row's number, if the row is broken
@@ -49,28 +49,31 @@ module _ (P : ℕ → Type 0) where
   each-says g says k [] = tt
   each-says g says k (x ∷ xs) = every-join Says (g k x) (each g (suc k) xs) (says k x) (each-says g says (suc k) xs)
 
-  -- a whole table: what P says of 1, of the header's rows, and of the rows from 10 on
-  pub table-says : (short wrongLength : Bool) (p : Park) → (short ≡ true → P 1) → Every Says (headerRules wrongLength (p .header)) → ((n : ℕ) → 10 ≤ n → OfTable n → P n) → Every Says (rulesOf short wrongLength p)
+  -- a whole table: what P says of 1, of the header's rows, of the generators', and of the other rows from 10 on
+  pub table-says : (short wrongLength : Bool) (p : Park) → (short ≡ true → P 1) → Every Says (headerRules wrongLength (p .header)) → Every Says (each (generatorRules (p .header) (p .sites)) 1 (p .generators)) → ((n : ℕ) → 10 ≤ n → n ≤ 24 → OfTable n → P n) → Every Says (rulesOf short wrongLength p)
   unfolding rulesWith siteRules lineRules inputRules
-  table-says short wrongLength p one header rest =
+  table-says short wrongLength p one header ofGenerators rest =
       let sites = each siteRules 1 (p .sites) in
-      let lines = each (lineRules (p .header .sites)) 1 (p .lines) in
+      let lines = each (lineRules (p .header)) 1 (p .lines) in
+      let generators = each (generatorRules (p .header) (p .sites)) 1 (p .generators) in
       let inputs = each (inputRules (p .lines)) 1 (p .sites) in
-      every-join Says (startRules short ++ headerRules wrongLength (p .header)) (sites ++ (lines ++ inputs)) (one, header)
-      (every-join Says sites (lines ++ inputs)
-      (each-says siteRules (λ k x. (λ e. rest _ (lit≤ tt) (listed _ refl), (λ e. rest _ (lit≤ tt) (listed _ refl), (λ e. rest _ (lit≤ tt) (listed _ refl), (λ e. rest _ (lit≤ tt) (listed _ refl), tt))))) 1 (p .sites))
-      (every-join Says lines inputs
-      (each-says (lineRules (p .header .sites)) (λ k l. (λ e. rest _ (lit≤ tt) (listed _ refl), (λ e. rest _ (lit≤ tt) (listed _ refl), (λ e. rest _ (lit≤ tt) (listed _ refl), (λ e. rest _ (lit≤ tt) (listed _ refl), (λ e. rest _ (lit≤ tt) (listed _ refl), (λ e. rest _ (lit≤ tt) (listed _ refl), (λ e. rest _ (lit≤ tt) (listed _ refl), tt)))))))) 1 (p .lines))
-      (each-says (inputRules (p .lines)) (λ k x. (λ e. rest _ (lit≤ tt) (listed _ refl), tt)) 1 (p .sites))))
+      every-join Says (startRules short ++ headerRules wrongLength (p .header)) (sites ++ (lines ++ (generators ++ inputs))) (one, header)
+      (every-join Says sites (lines ++ (generators ++ inputs))
+      (each-says siteRules (λ k x. (λ e. rest _ (lit≤ tt) (lit≤ tt) (listed _ refl), (λ e. rest _ (lit≤ tt) (lit≤ tt) (listed _ refl), (λ e. rest _ (lit≤ tt) (lit≤ tt) (listed _ refl), (λ e. rest _ (lit≤ tt) (lit≤ tt) (listed _ refl), tt))))) 1 (p .sites))
+      (every-join Says lines (generators ++ inputs)
+      (each-says (lineRules (p .header)) (λ k l. (λ e. rest _ (lit≤ tt) (lit≤ tt) (listed _ refl), (λ e. rest _ (lit≤ tt) (lit≤ tt) (listed _ refl), (λ e. rest _ (lit≤ tt) (lit≤ tt) (listed _ refl), (λ e. rest _ (lit≤ tt) (lit≤ tt) (listed _ refl), (λ e. rest _ (lit≤ tt) (lit≤ tt) (listed _ refl), (λ e. rest _ (lit≤ tt) (lit≤ tt) (listed _ refl), (λ e. rest _ (lit≤ tt) (lit≤ tt) (listed _ refl), tt)))))))) 1 (p .lines))
+      (every-join Says generators inputs ofGenerators
+      (each-says (inputRules (p .lines)) (λ k x. (λ e. rest _ (lit≤ tt) (lit≤ tt) (listed _ refl), tt)) 1 (p .sites)))))
 
 -- the table's refusals have the table's numbers
 pub first-own : (short wrongLength : Bool) (p : Park) {r : ℕ × ℕ} → firstBroken (rulesOf short wrongLength p) ≡ some r → OfTable (r .0)
-unfolding headerRules
+unfolding headerRules generatorRules
 first-own short wrongLength p e =
     first-says OfTable (rulesOf short wrongLength p)
     (table-says OfTable short wrongLength p (λ e. listed _ refl)
-    (λ e. listed _ refl, (λ e. listed _ refl, (λ e. listed _ refl, (λ e. listed _ refl, (λ e. listed _ refl, (λ e. listed _ refl, (λ e. listed _ refl, (λ e. listed _ refl, tt))))))))
-    (λ n low own. own))
+    (λ e. listed _ refl, (λ e. listed _ refl, (λ e. listed _ refl, (λ e. listed _ refl, (λ e. listed _ refl, (λ e. listed _ refl, (λ e. listed _ refl, (λ e. listed _ refl, (λ e. listed _ refl, tt)))))))))
+    (each-says OfTable (generatorRules (p .header) (p .sites)) (λ k g. (λ e. listed _ refl, (λ e. listed _ refl, tt))) 1 (p .generators))
+    (λ n low high own. own))
     e
 
 -- none of them is 0, nor that of a call
@@ -80,19 +83,22 @@ own-positive n = ⊎-elim (λ h. h .0) (λ h. omega arith)
 pub no-call : (n : ℕ) → 20 ≤ n → n ≤ 22 → OfTable n → ⊥
 no-call n low high = ⊎-elim (λ h. omega arith) (λ h. omega arith)
 
--- 9 is the last rule of the header: a broken one before it is the first, and has a lower number; else it is 9 that decides
+-- 9 is the last rule of the header: a broken one before it is the first, and has another number; else it is 9 that decides
 module _ (h : Header) (wrongLength : Bool) where
   abbrev before-length : List Row
-  before-length = take 7 (headerRules false h)
+  before-length = take 8 (headerRules false h)
 
-  pub before-nine : {r : ℕ × ℕ} → firstBroken (headerRules false h) ≡ some r → (firstBroken (headerRules wrongLength h) ≡ some r) × (r .0 ≤ 8)
+  apart : (n : ℕ) → eqb n 9 ≡ false → n ≡ 9 → ⊥
+  apart n e = eqb-false n 9 e
+
+  pub before-nine : {r : ℕ × ℕ} → firstBroken (headerRules false h) ≡ some r → (firstBroken (headerRules wrongLength h) ≡ some r) × (r .0 ≡ 9 → ⊥)
   unfolding headerRules firstBroken
-  before-nine {r} e = (by (firstBroken before-length) refl, few)
+  before-nine {r} e = (by (firstBroken before-length) refl, other)
     where
-      few : r .0 ≤ 8
-      few =
-          first-says (λ (n : ℕ). n ≤ 8) (headerRules false h)
-          (λ e. lit≤ tt, (λ e. lit≤ tt, (λ e. lit≤ tt, (λ e. lit≤ tt, (λ e. lit≤ tt, (λ e. lit≤ tt, (λ e. lit≤ tt, (λ e. absurd (true≢false (sym e)), tt)))))))) e
+      other : r .0 ≡ 9 → ⊥
+      other =
+          first-says (λ (n : ℕ). n ≡ 9 → ⊥) (headerRules false h)
+          (λ e. apart 2 refl, (λ e. apart 3 refl, (λ e. apart 4 refl, (λ e. apart 5 refl, (λ e. apart 6 refl, (λ e. apart 7 refl, (λ e. apart 8 refl, (λ e. apart 25 refl, (λ e. absurd (true≢false (sym e)), tt))))))))) e
 
       by : (o : Option (ℕ × ℕ)) → firstBroken before-length ≡ o → firstBroken (headerRules wrongLength h) ≡ some r
       by none kept =

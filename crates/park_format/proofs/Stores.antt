@@ -37,4 +37,4 @@ last-stored w n p = rw (append-nil (bytesOf w n)) p
 
 -- a store leaves the room that there was
 pub still-sized : {h : Header} {bytes a b : List ℕ} {at : ℕ} → Stored bytes at a b → Sized h (length a) → Sized h (length b)
-still-sized p s = record { sites = s .sites; lines = s .lines; size = omega (arith, p .size, s .size) }
+still-sized p s = record { sites = s .sites; lines = s .lines; generators = s .generators; size = omega (arith, p .size, s .size) }

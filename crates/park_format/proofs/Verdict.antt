@@ -11,23 +11,24 @@ use mathlib.Core.Option.{Option, none, some}
 use lib.Dec.{eqb, ltb}
 use lib.ListN.{length}
 use borrow.Author.Tests.{lt-ltb, le-ltb, ltb-true, ltb-false, not-true, not-false}
-use Rattle.park_format.specs.Park.{headerOf, inputs, lineOf, listOf, Park, parkOf, select, siteOf}
-use Rattle.park_format.specs.Rules.{Row, firstBroken, headerRules, siteRules, lineRules, inputRules, each, fileRules, hasWrongLength, rulesOf, rulesWith, refusal, isEmpty, sizeOf}
+use Rattle.park_format.specs.Park.{generatorOf, headerOf, inputs, lineOf, listOf, Park, parkOf, select, siteOf}
+use Rattle.park_format.specs.Rules.{Row, firstBroken, headerRules, siteRules, lineRules, generatorRules, inputRules, each, fileRules, hasWrongLength, rulesOf, rulesWith, refusal, isEmpty, sizeOf}
 use Rattle.park_format.specs.Inner.Set.{has, Lowest, IsFed}
 use Rattle.park_format.specs.Inner.Sized.{Sized}
 use Rattle.park_format.specs.Limits.{mostSites}
-use Rattle.park_format.specs.Format.{headerSize}
+use Rattle.park_format.specs.Format.{shortestHeader}
 use Rattle.park_format.specs.declared.header.Header.{Header}
 use Rattle.park_format.specs.declared.site.Site.{Site}
 use Rattle.park_format.specs.declared.line.Line.{Line}
+use Rattle.park_format.specs.declared.generator.Generator.{Generator}
 use Rattle.park_format.proofs.Accepted.{kept-header, kept-sized}
 use Rattle.park_format.proofs.Lists.{select-append, isEmpty-append}
 use Rattle.park_format.proofs.Rules.{first-append, first-stays, upTo, upTo-zero, upTo-next, upTo-stays}
 
 -- a park whose records are read one by one, from a file or from elsewhere, and whose header is there to be read
-module _ (wrongLength : Bool) (h : Header) (site : ℕ → Site) (line : ℕ → Line) where
+module _ (wrongLength : Bool) (h : Header) (site : ℕ → Site) (line : ℕ → Line) (generator : ℕ → Generator) where
   abbrev park : Park
-  park = record { header = h; sites = listOf site (h .sites); lines = listOf line (h .lines) }
+  park = record { header = h; sites = listOf site (h .sites); lines = listOf line (h .lines); generators = listOf generator (h .generators) }
 
   -- the parts of its table
   abbrev header-part : List Row
@@ -37,7 +38,10 @@ module _ (wrongLength : Bool) (h : Header) (site : ℕ → Site) (line : ℕ →
   sites-part = each siteRules 1 (park .sites)
 
   abbrev lines-part : List Row
-  lines-part = each (lineRules (h .sites)) 1 (park .lines)
+  lines-part = each (lineRules h) 1 (park .lines)
+
+  abbrev generators-part : List Row
+  generators-part = each (generatorRules h (park .sites)) 1 (park .generators)
 
   abbrev inputs-part : List Row
   inputs-part = each (inputRules (park .lines)) 1 (park .sites)
@@ -46,7 +50,7 @@ module _ (wrongLength : Bool) (h : Header) (site : ℕ → Site) (line : ℕ →
   abbrev pub Table : Option (ℕ × ℕ) → Type 0
   Table refused = refused ≡ firstBroken (rulesOf false wrongLength park)
 
-  parts : firstBroken (rulesOf false wrongLength park) ≡ firstBroken (header-part ++ (sites-part ++ (lines-part ++ inputs-part)))
+  parts : firstBroken (rulesOf false wrongLength park) ≡ firstBroken (header-part ++ (sites-part ++ (lines-part ++ (generators-part ++ inputs-part))))
   unfolding rulesWith firstBroken
   parts = refl
 
@@ -59,31 +63,38 @@ module _ (wrongLength : Bool) (h : Header) (site : ℕ → Site) (line : ℕ →
     pub sound : none ≡ firstBroken header-part
 
   module _ {refused : Option (ℕ × ℕ)} (head : Headed refused) where
-    after-header : refused ≡ firstBroken (sites-part ++ (lines-part ++ inputs-part))
+    after-header : refused ≡ firstBroken (sites-part ++ (lines-part ++ (generators-part ++ inputs-part)))
     after-header = head .table ∙ parts ∙ first-append header-part _ (sym (head .sound))
 
     pub sites-refused : {r : ℕ × ℕ} → some r ≡ firstBroken sites-part → some r ≡ refused
     sites-refused e = sym (after-header ∙ first-stays sites-part _ (sym e))
 
     module _ (sites : none ≡ firstBroken sites-part) where
-      after-sites : refused ≡ firstBroken (lines-part ++ inputs-part)
+      after-sites : refused ≡ firstBroken (lines-part ++ (generators-part ++ inputs-part))
       after-sites = after-header ∙ first-append sites-part _ (sym sites)
 
       pub lines-refused : {r : ℕ × ℕ} → some r ≡ firstBroken lines-part → some r ≡ refused
       lines-refused e = sym (after-sites ∙ first-stays lines-part _ (sym e))
 
-      pub inputs-decide : none ≡ firstBroken lines-part → firstBroken inputs-part ≡ refused
-      inputs-decide lines = sym (after-sites ∙ first-append lines-part _ (sym lines))
+      module _ (lines : none ≡ firstBroken lines-part) where
+        after-lines : refused ≡ firstBroken (generators-part ++ inputs-part)
+        after-lines = after-sites ∙ first-append lines-part _ (sym lines)
+
+        pub generators-refused : {r : ℕ × ℕ} → some r ≡ firstBroken generators-part → some r ≡ refused
+        generators-refused e = sym (after-lines ∙ first-stays generators-part _ (sym e))
+
+        pub inputs-decide : none ≡ firstBroken generators-part → firstBroken inputs-part ≡ refused
+        inputs-decide generators = sym (after-lines ∙ first-append generators-part _ (sym generators))
 
 -- a file
-pub too-short : (file : List ℕ) → length file < headerSize → some (1, 0) ≡ refusal file
+pub too-short : (file : List ℕ) → length file < shortestHeader → some (1, 0) ≡ refusal file
 unfolding refusal fileRules rulesWith firstBroken
-too-short file h = rw (lt-ltb (length file) headerSize h)
+too-short file h = rw (lt-ltb (length file) shortestHeader h)
 
 module _ (file : List ℕ) (h : Header) (read : h ≡ headerOf file) where
-  pub file-table : headerSize ≤ length file → Table (hasWrongLength file) h (siteOf h file) (lineOf h file) (refusal file)
+  pub file-table : shortestHeader ≤ length file → Table (hasWrongLength file) h (siteOf h file) (lineOf h file) (generatorOf h file) (refusal file)
   unfolding refusal fileRules parkOf
-  file-table long = rw (le-ltb (length file) headerSize long, read)
+  file-table long = rw (le-ltb (length file) shortestHeader long, read)
 
   -- with a header that keeps its rules it has room for what the header says
   pub sized : none ≡ firstBroken (headerRules (hasWrongLength file) h) → Sized h (length file)

@@ -6,12 +6,12 @@ use mathlib.Core.List.{List}
 use mathlib.Core.Option.{some}
 use lib.ListN.{length, take}
 use Rattle.park_format.specs.Format.{fileSize}
-use Rattle.park_format.specs.Limits.{mostLines, mostSites}
+use Rattle.park_format.specs.Limits.{latestVersion, mostGenerators, mostLines, mostSites}
 use Rattle.park_format.specs.Rules.{refusal}
 
--- the bytes of the longest file that the rules accept: 1,534, of 16 sites and 64 lines
+-- the bytes of the longest file that the rules accept: 1,951, of the latest version, 16 sites, 64 lines and 32 generators
 abbrev pub longest : ℕ
-longest = fileSize mostSites mostLines
+longest = fileSize latestVersion mostSites mostLines mostGenerators
 
 -- a longer file is refused, and by its first bytes as by all of them, if those are more than the longest accepted file has
 abbrev pub CutRefusal : Type 0

@@ -13,6 +13,7 @@ use Rattle.park_format.specs.Limits.{mostEerp}
 use Rattle.park_format.specs.Park.{noLine, Park, parkOf}
 use Rattle.park_format.specs.Rules.{Row, backwards, bothNetwork, endAbove, firstBroken, hasWrongLength, isShort, lineRules, readingAbove, refusal, rulesOf, rulesWith, wrongMeters, wrongReadings, zeroOrAbove}
 use Rattle.park_format.specs.Rules.Row.{rule}
+use Rattle.park_format.specs.declared.header.Header.{Header}
 use Rattle.park_format.specs.declared.line.Line.{Line}
 
 -- a line of a park of s sites: an end is above s
@@ -27,14 +28,14 @@ BothNetwork l = (l .from ≡ 0) × (l .to ≡ 0)
 abbrev pub OutOfOrder : ℕ → Line → Type 0
 OutOfOrder s l = (1 ≤ l .to) × ((l .to ≤ l .from) × (l .from ≤ s))
 
--- line k is refused by each of the three numbers exactly when it has the fault, whatever else is wrong with it
-pub record Told (s k : ℕ) (l : Line) : Type 0 where
-  pub above : (place : ℕ) → (firstBroken (lineRules s k l) ≡ some (14, place)) ↔ ((place ≡ k) × EndAbove s l)
-  pub network : (place : ℕ) → (firstBroken (lineRules s k l) ≡ some (23, place)) ↔ ((place ≡ k) × BothNetwork l)
-  pub outOfOrder : (place : ℕ) → (firstBroken (lineRules s k l) ≡ some (24, place)) ↔ ((place ≡ k) × OutOfOrder s l)
+-- line k of a park with that header is refused by each of the three numbers exactly when it has the fault, whatever else is wrong with it
+pub record Told (h : Header) (k : ℕ) (l : Line) : Type 0 where
+  pub above : (place : ℕ) → (firstBroken (lineRules h k l) ≡ some (14, place)) ↔ ((place ≡ k) × EndAbove (h .sites) l)
+  pub network : (place : ℕ) → (firstBroken (lineRules h k l) ≡ some (23, place)) ↔ ((place ≡ k) × BothNetwork l)
+  pub outOfOrder : (place : ℕ) → (firstBroken (lineRules h k l) ≡ some (24, place)) ↔ ((place ≡ k) × OutOfOrder (h .sites) l)
 
 abbrev pub EndsTold : Type 0
-EndsTold = (s k : ℕ) (l : Line) → Told s k l
+EndsTold = (h : Header) (k : ℕ) (l : Line) → Told h k l
 
 -- the place is a line of the park, and that line has the fault
 pub record Meant (p : Park) (place : ℕ) (Fault : Line → Type 0) : Type 0 where
@@ -58,11 +59,11 @@ FileEndsMeant = (file : List ℕ) → MeantBy (refusal file) (parkOf file)
 abbrev pub wrongEnds : ℕ → Line → Bool
 wrongEnds s l = endAbove s l || (bothNetwork l || backwards l)
 
--- a line's rows with one rule for its ends, as in 01
-abbrev pub formerLineRules : ℕ → ℕ → Line → List Row
-formerLineRules s k l =
-    rule 14 k (wrongEnds s l)
-    ∷ rule 15 k (wrongMeters (l .meters))
+-- a line's rows with 01's one rule for its ends
+abbrev pub formerLineRules : Header → ℕ → Line → List Row
+formerLineRules h k l =
+    rule 14 k (wrongEnds (h .sites) l)
+    ∷ rule 15 k (wrongMeters (h .version) (l .meters))
     ∷ rule 16 k (zeroOrAbove mostEerp (l .eerp))
     ∷ rule 17 k (readingAbove l)
     ∷ rule 18 k (wrongReadings l)
@@ -76,14 +77,14 @@ abbrev pub formerly : Option (ℕ × ℕ) → Option (ℕ × ℕ)
 formerly none = none
 formerly (some r) = some (formerNumber (r .0), r .1)
 
--- the table with 01's rows accepts the same parks, and refuses at the same place and by the same number, but for 14, where now it is 14, 23
+-- the table with 01's one rule for the ends accepts the same parks, and refuses at the same place and by the same number, but for 14, where now it is 14, 23
 -- or 24
 abbrev pub SameRefused : Type 0
 SameRefused =
     (short wrongLength : Bool) (p : Park)
     → firstBroken (rulesWith formerLineRules short wrongLength p) ≡ formerly (firstBroken (rulesOf short wrongLength p))
 
--- what 01's table says of a file
+-- what the table with 01's one rule for the ends says of a file
 abbrev pub formerRefusal : List ℕ → Option (ℕ × ℕ)
 formerRefusal file = firstBroken (rulesWith formerLineRules (isShort file) (hasWrongLength file) (parkOf file))
 

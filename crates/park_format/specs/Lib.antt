@@ -7,4 +7,5 @@ pub mod Cut
 pub mod Ends
 pub mod Accepted
 pub mod Made
+pub mod First
 pub mod Inner

@@ -1,6 +1,12 @@
 -- The limits of the fields (01, "Where each thing is checked"), and what sums and products of such fields come to at most.
 -- Assumes nothing.
 use Prim.Native.Nat.{ℕ, _+_, _*_, _/_}
+use mathlib.Core.Bool.{cond}
+use lib.Dec.{eqb}
+
+-- 3
+abbrev pub latestVersion : ℕ
+latestVersion = 2
 
 -- 4
 abbrev pub months : ℕ
@@ -22,6 +28,10 @@ mostPrice = 2000000
 abbrev pub longestMonth : ℕ
 longestMonth = 745
 
+-- 25
+abbrev pub mostGenerators : ℕ
+mostGenerators = 32
+
 -- 10: kW
 abbrev pub mostPower : ℕ
 mostPower = 1000000
@@ -38,21 +48,25 @@ mostInstalled = 20000
 abbrev pub mostDiscount : ℕ
 mostDiscount = 1000
 
--- 15: the mark with all three meters
-abbrev pub mostMark : ℕ
-mostMark = 7
+-- 15: the mark with all its meters, of which version 1 has three and version 2 four
+abbrev pub mostMark : ℕ → ℕ
+mostMark version = cond (eqb version 1) 7 15
 
 -- 16: ten-thousandths of kW/kVAr
 abbrev pub mostEerp : ℕ
 mostEerp = 5000
 
--- 17: kWh, and kVArh
+-- 17 and 27: kWh, and kVArh
 abbrev pub mostReading : ℕ
 mostReading = 10000000
 
 -- a reading, added over all lines
 abbrev pub mostReadings : ℕ
 mostReadings = mostReading * mostLines
+
+-- the output of all generators
+abbrev pub mostOutputs : ℕ
+mostOutputs = mostReading * mostGenerators
 
 -- a reading times D, of one line, and added over all lines
 abbrev pub mostLoss : ℕ
@@ -64,6 +78,10 @@ mostLosses = mostLoss * mostLines
 -- what a sum of losses has while another line is added to it: inputs and transits of both walks stay below
 abbrev pub mostNet : ℕ
 mostNet = 3 * mostLosses
+
+-- step 2: WP0, with what generators add, is at most this
+abbrev pub mostActive : ℕ
+mostActive = 2 * mostNet
 
 -- D, added over all lines
 abbrev pub mostEerps : ℕ

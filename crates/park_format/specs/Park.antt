@@ -1,4 +1,5 @@
--- The park file as values (01, "The park file"): a header, a list of sites and a list of lines.
+-- The park file as values (01, "The park file"; 02, R-5): a header, and lists of sites, of lines and of generators. A file of version 1 has
+-- no generators, and its lines no active generation.
 -- Assumes nothing.
 use Prim.Native.Nat.{ℕ, zero, suc, _<_}
 use mathlib.Core.Path.{_≡_}
@@ -6,12 +7,13 @@ use mathlib.Core.Bool.{Bool, cond}
 use mathlib.Core.List.{List, [], _∷_, _++_}
 use lib.Dec.{eqb}
 use lib.ListN.{getD}
-use Rattle.park_format.specs.Format.{fieldsAt, headerWidths, lineStart, lineWidths, siteStart, siteWidths}
+use Rattle.park_format.specs.Format.{fieldsAt, generatorStart, generatorWidths, headerWidths, lineStart, lineWidths, siteStart, siteWidths, versionOf}
 use Rattle.park_format.specs.declared.header.Header.{Header}
 use Rattle.park_format.specs.declared.site.Site.{Site}
 use Rattle.park_format.specs.declared.line.Line.{Line}
+use Rattle.park_format.specs.declared.generator.Generator.{Generator}
 
--- a record from its numbers, in the order of the file
+-- a record from its numbers, in the order of the file; 0 for what its version has no field for
 abbrev pub headerFrom : List ℕ → Header
 headerFrom xs =
     record {
@@ -22,6 +24,7 @@ headerFrom xs =
       lines = getD xs 4 0;
       price = getD xs 5 0;
       hours = getD xs 6 0;
+      generators = getD xs 7 0;
     }
 
 abbrev pub siteFrom : List ℕ → Site
@@ -45,24 +48,34 @@ lineFrom xs =
       reactive = getD xs 5 0;
       generated = getD xs 6 0;
       night = getD xs 7 0;
+      produced = getD xs 8 0;
     }
 
--- the header of a file, and the site and the line that begin at a position
+abbrev pub generatorFrom : List ℕ → Generator
+generatorFrom xs = record { site = getD xs 0 0; output = getD xs 1 0 }
+
+-- the header of a file, and the site, the line and the generator that begin at a position
 unfoldable pub headerOf : List ℕ → Header
-headerOf file = headerFrom (fieldsAt headerWidths file 0)
+headerOf file = headerFrom (fieldsAt (headerWidths (versionOf file)) file 0)
 
 unfoldable pub siteAt : List ℕ → ℕ → Site
 siteAt file at = siteFrom (fieldsAt siteWidths file at)
 
-unfoldable pub lineAt : List ℕ → ℕ → Line
-lineAt file at = lineFrom (fieldsAt lineWidths file at)
+unfoldable pub lineAt : ℕ → List ℕ → ℕ → Line
+lineAt version file at = lineFrom (fieldsAt (lineWidths version) file at)
 
--- site i and line i of a file with that header, counted from 0; a site does not ask the header, which another version of the file may need
+unfoldable pub generatorAt : List ℕ → ℕ → Generator
+generatorAt file at = generatorFrom (fieldsAt generatorWidths file at)
+
+-- site i, line i and generator i of a file with that header, counted from 0
 unfoldable pub siteOf : Header → List ℕ → ℕ → Site
-siteOf h file i = siteAt file (siteStart i)
+siteOf h file i = siteAt file (siteStart (h .version) i)
 
 unfoldable pub lineOf : Header → List ℕ → ℕ → Line
-lineOf h file i = lineAt file (lineStart (h .sites) i)
+lineOf h file i = lineAt (h .version) file (lineStart (h .version) (h .sites) i)
+
+unfoldable pub generatorOf : Header → List ℕ → ℕ → Generator
+generatorOf h file i = generatorAt file (generatorStart (h .version) (h .sites) (h .lines) i)
 
 -- n values, the i-th of them at i, counted from 0
 unfoldable pub listOf {ℓ} : {A : Type ℓ} → (ℕ → A) → ℕ → List A
@@ -81,28 +94,46 @@ inputs k lines = select (λ (l : Line). eqb (l .to) k) lines
 abbrev pub transits : ℕ → List Line → List Line
 transits k lines = select (λ (l : Line). eqb (l .from) k) lines
 
+-- the generators of site k
+abbrev pub generatorsAt : ℕ → List Generator → List Generator
+generatorsAt k generators = select (λ (g : Generator). eqb (g .site) k) generators
+
 -- the park as values
 pub record Park : Type 0 where
   pub header : Header
   pub sites : List Site
   pub lines : List Line
+  pub generators : List Generator
 
--- the park of a file: as many sites and lines as its header says
+-- the park of a file: as many sites, lines and generators as its header says
 unfoldable pub parkOf : List ℕ → Park
 parkOf file =
     let h = headerOf file in
-    record { header = h; sites = listOf (siteOf h file) (h .sites); lines = listOf (lineOf h file) (h .lines) }
+    record {
+      header = h;
+      sites = listOf (siteOf h file) (h .sites);
+      lines = listOf (lineOf h file) (h .lines);
+      generators = listOf (generatorOf h file) (h .generators);
+    }
 
--- no park has these: what stands for a site or a line past the last
+-- no park has these: what stands for a site, a line or a generator past the last
 abbrev pub noSite : Site
 noSite = siteFrom []
 
 abbrev pub noLine : Line
 noLine = lineFrom []
 
--- a record that is read by its index is that entry of the park (`site-entry` and `line-entry` of proofs/Entries.antt)
+abbrev pub noGenerator : Generator
+noGenerator = generatorFrom []
+
+-- a record that is read by its index is that entry of the park (`site-entry` of proofs/Entries.antt, and so on)
 abbrev pub SiteEntry : Type 0
 SiteEntry = (file : List ℕ) (i : ℕ) → i < headerOf file .sites → getD (parkOf file .sites) i noSite ≡ siteOf (headerOf file) file i
 
 abbrev pub LineEntry : Type 0
 LineEntry = (file : List ℕ) (i : ℕ) → i < headerOf file .lines → getD (parkOf file .lines) i noLine ≡ lineOf (headerOf file) file i
+
+abbrev pub GeneratorEntry : Type 0
+GeneratorEntry =
+    (file : List ℕ) (i : ℕ) → i < headerOf file .generators
+    → getD (parkOf file .generators) i noGenerator ≡ generatorOf (headerOf file) file i

@@ -1,4 +1,5 @@
--- The rules of the park file (01, "Where each thing is checked"; 23 and 24: 02, R-2): the table row by row, and the refusal that it puts first.
+-- The rules of the park file (01, "Where each thing is checked"; 23 and 24: 02, R-2; 25 to 27: R-5): the table row by row, and the refusal that
+-- it puts first.
 -- A file is accepted when no row is broken. No other condition refuses.
 -- Assumes nothing.
 use Prim.Native.Nat.{ℕ, suc, _-_, _/_, _%_, _≤_}
@@ -9,23 +10,24 @@ use mathlib.Core.List.{List, [], _∷_, _++_}
 use mathlib.Core.Option.{Option, none, some}
 use lib.Dec.{ltb, leb, eqb}
 use lib.ListN.{length, getD}
-use Rattle.park_format.specs.Format.{fileSize, headerSize}
-use Rattle.park_format.specs.Limits.{months, mostDiscount, mostEerp, mostFlag, mostInstalled, mostLines, mostMark, mostPower, mostPrice, mostReading, mostSites}
-use Rattle.park_format.specs.Park.{Park, headerOf, inputs, parkOf}
+use Rattle.park_format.specs.Format.{fileSize, shortestHeader}
+use Rattle.park_format.specs.Limits.{latestVersion, months, mostDiscount, mostEerp, mostFlag, mostGenerators, mostInstalled, mostLines, mostMark, mostPower, mostPrice, mostReading, mostSites}
+use Rattle.park_format.specs.Park.{Park, headerOf, inputs, noSite, parkOf}
 use Rattle.park_format.specs.declared.header.Header.{Header}
 use Rattle.park_format.specs.declared.site.Site.{Site}
 use Rattle.park_format.specs.declared.line.Line.{Line}
+use Rattle.park_format.specs.declared.generator.Generator.{Generator}
 use Rattle.park_format.specs.declared.rule.Verdict.{Verdict}
 use Rattle.park_format.specs.declared.rule.Verdict.the-variants.{Accepted, Refused}
 
--- a row of the table: the rule's number, the place, and whether the rule is broken there. The place is the site or the line, counted
--- from 1, for 10 to 19, 23 and 24, else 0
+-- a row of the table: the rule's number, the place, and whether the rule is broken there. The place is the site, the line or the generator,
+-- counted from 1, for 10 to 19, 23, 24, 26 and 27, else 0
 pub data Row : Type 0 where
   rule : ℕ → ℕ → Bool → Row
 
 -- the numbers of the table's rows. 20 to 22 belong to the calls
 abbrev pub OfTable : ℕ → Type 0
-OfTable n = ((1 ≤ n) × (n ≤ 19)) ⊎ ((23 ≤ n) × (n ≤ 24))
+OfTable n = ((1 ≤ n) × (n ≤ 19)) ⊎ ((23 ≤ n) × (n ≤ 27))
 
 -- number and place of the first broken row, if there is one
 unfoldable pub firstBroken : List Row → Option (ℕ × ℕ)
@@ -49,7 +51,7 @@ monthHours = 744 ∷ 696 ∷ 743 ∷ 720 ∷ 744 ∷ 720 ∷ 744 ∷ 744 ∷ 720
 abbrev pub parkMark : ℕ
 parkMark = 0x4b5250
 
--- 4 to 7, 10, 16: x is 0, or above the most that it may be
+-- 3 to 7, 10, 16, 26: x is 0, or above the most that it may be
 abbrev pub zeroOrAbove : ℕ → ℕ → Bool
 zeroOrAbove most x = eqb x 0 || ltb most x
 
@@ -57,8 +59,8 @@ zeroOrAbove most x = eqb x 0 || ltb most x
 unfoldable pub mostHours : ℕ → ℕ
 mostHours month = cond (zeroOrAbove months month) 0 (getD monthHours (month - 1) 0)
 
--- 15 and 18: the meters that a mark is the sum of: 1 reactive consumption, 2 generation, 4 night-valley generation. Active consumption
--- is always metered, and has none
+-- 15 and 18: the meters that a mark is the sum of: 1 reactive consumption, 2 generation, 4 night-valley generation, 8 active generation.
+-- Active consumption is always metered, and has none
 abbrev pub measuresReactive : ℕ → Bool
 measuresReactive mark = eqb (mark % 2) 1
 
@@ -68,28 +70,32 @@ measuresGenerated mark = eqb (mark / 2 % 2) 1
 abbrev pub measuresNight : ℕ → Bool
 measuresNight mark = eqb (mark / 4 % 2) 1
 
--- 12, and steps 6 and 9: the flag says that compensation or generating devices exist
+abbrev pub measuresProduced : ℕ → Bool
+measuresProduced mark = eqb (mark / 8 % 2) 1
+
+-- 12 and 26, and steps 6 and 9: the flag says that compensation or generating devices exist
 abbrev pub hasDevices : Site → Bool
 hasDevices x = not (eqb (x .devices) 0)
 
--- 9: 14 + 11s + 21n
+-- 9: 14 + 11s + 21n in version 1, 15 + 11s + 25n + 5g in version 2
 abbrev pub sizeOf : Header → ℕ
-sizeOf h = fileSize (h .sites) (h .lines)
+sizeOf h = fileSize (h .version) (h .sites) (h .lines) (h .generators)
 
--- 1: too short for a header
+-- 1: too short for the shortest header
 abbrev pub startRules : Bool → List Row
 startRules short = rule 1 0 short ∷ []
 
--- 2 to 9: header and length
+-- 2 to 8, 25 and 9: header and length
 unfoldable pub headerRules : Bool → Header → List Row
 headerRules wrongLength h =
     rule 2 0 (not (eqb (h .mark) parkMark))
-    ∷ rule 3 0 (not (eqb (h .version) 1))
+    ∷ rule 3 0 (zeroOrAbove latestVersion (h .version))
     ∷ rule 4 0 (zeroOrAbove months (h .month))
     ∷ rule 5 0 (zeroOrAbove mostSites (h .sites))
     ∷ rule 6 0 (zeroOrAbove mostLines (h .lines))
     ∷ rule 7 0 (zeroOrAbove mostPrice (h .price))
     ∷ rule 8 0 (ltb (mostHours (h .month)) (h .hours))
+    ∷ rule 25 0 (ltb mostGenerators (h .generators))
     ∷ rule 9 0 wrongLength
     ∷ []
 
@@ -122,13 +128,18 @@ bothNetwork l = eqb (l .from) 0 && eqb (l .to) 0
 abbrev pub backwards : Line → Bool
 backwards l = not (eqb (l .from) 0) && (not (eqb (l .to) 0) && leb (l .to) (l .from))
 
--- 15: mark above 7, or holding 4 without 2
-abbrev pub wrongMeters : ℕ → Bool
-wrongMeters mark = ltb mostMark mark || (measuresNight mark && not (measuresGenerated mark))
+-- 15: mark above 7, in version 2 above 15, or holding 4 without 2
+abbrev pub wrongMeters : ℕ → ℕ → Bool
+wrongMeters version mark = ltb (mostMark version) mark || (measuresNight mark && not (measuresGenerated mark))
 
 -- 17: a reading above 10,000,000
 abbrev pub readingAbove : Line → Bool
-readingAbove l = ltb mostReading (l .active) || (ltb mostReading (l .reactive) || (ltb mostReading (l .generated) || ltb mostReading (l .night)))
+readingAbove l =
+    ltb mostReading (l .active)
+    || (ltb mostReading (l .reactive)
+    || (ltb mostReading (l .generated)
+    || (ltb mostReading (l .night)
+    || ltb mostReading (l .produced))))
 
 -- 18: a reading not 0 without its meter
 abbrev pub withoutMeter : Bool → ℕ → Bool
@@ -140,18 +151,30 @@ wrongReadings l =
     withoutMeter (measuresReactive (l .meters)) (l .reactive)
     || (withoutMeter (measuresGenerated (l .meters)) (l .generated)
     || (withoutMeter (measuresNight (l .meters)) (l .night)
-    || ltb (l .generated) (l .night)))
+    || (withoutMeter (measuresProduced (l .meters)) (l .produced)
+    || ltb (l .generated) (l .night))))
 
--- 14, 23, 24 and 15 to 18: one line of a park of s sites
-unfoldable pub lineRules : ℕ → ℕ → Line → List Row
-lineRules s k l =
-    rule 14 k (endAbove s l)
+-- 14, 23, 24 and 15 to 18: one line of a park with that header
+unfoldable pub lineRules : Header → ℕ → Line → List Row
+lineRules h k l =
+    rule 14 k (endAbove (h .sites) l)
     ∷ rule 23 k (bothNetwork l)
     ∷ rule 24 k (backwards l)
-    ∷ rule 15 k (wrongMeters (l .meters))
+    ∷ rule 15 k (wrongMeters (h .version) (l .meters))
     ∷ rule 16 k (zeroOrAbove mostEerp (l .eerp))
     ∷ rule 17 k (readingAbove l)
     ∷ rule 18 k (wrongReadings l)
+    ∷ []
+
+-- 26: a generator's site is none of the s sites, or its flag is 0
+abbrev pub wrongGenerator : Header → List Site → Generator → Bool
+wrongGenerator h sites g = zeroOrAbove (h .sites) (g .site) || not (hasDevices (getD sites (g .site - 1) noSite))
+
+-- 26 and 27: one generator of a park with that header and those sites
+unfoldable pub generatorRules : Header → List Site → ℕ → Generator → List Row
+generatorRules h sites k g =
+    rule 26 k (wrongGenerator h sites g)
+    ∷ rule 27 k (ltb mostReading (g .output))
     ∷ []
 
 -- 19: a list with no line
@@ -168,22 +191,24 @@ unfoldable pub each {ℓ} : {A : Type ℓ} → (ℕ → A → List Row) → ℕ 
 each rules k [] = []
 each rules k (x ∷ xs) = rules k x ++ each rules (suc k) xs
 
--- the whole table of a park: header and length, site by site, line by line, the park. What it is read from says whether it is too short
--- for a header, and whether its length is wrong. The rows of a line are an argument, so that Ends.antt can put the former ones there
-unfoldable pub rulesWith : (ℕ → ℕ → Line → List Row) → Bool → Bool → Park → List Row
+-- the whole table of a park: header and length, site by site, line by line, generator by generator, the park. What it is read from says
+-- whether it is too short for the shortest header, and whether its length is wrong. The rows of a line are an argument, so that Ends.antt can put the
+-- former ones there
+unfoldable pub rulesWith : (Header → ℕ → Line → List Row) → Bool → Bool → Park → List Row
 rulesWith ofLine short wrongLength p =
     (startRules short ++ headerRules wrongLength (p .header))
     ++ (each siteRules 1 (p .sites)
-    ++ (each (ofLine (p .header .sites)) 1 (p .lines)
-    ++ each (inputRules (p .lines)) 1 (p .sites)))
+    ++ (each (ofLine (p .header)) 1 (p .lines)
+    ++ (each (generatorRules (p .header) (p .sites)) 1 (p .generators)
+    ++ each (inputRules (p .lines)) 1 (p .sites))))
 
 -- with the present rows of a line
 abbrev pub rulesOf : Bool → Bool → Park → List Row
 rulesOf short wrongLength p = rulesWith lineRules short wrongLength p
 
--- 1 and 9, of a file
+-- 1 and 9, of a file: 1 asks for the 14 bytes of version 1
 abbrev pub isShort : List ℕ → Bool
-isShort file = ltb (length file) headerSize
+isShort file = ltb (length file) shortestHeader
 
 abbrev pub hasWrongLength : List ℕ → Bool
 hasWrongLength file = not (eqb (length file) (sizeOf (headerOf file)))

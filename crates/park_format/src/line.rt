@@ -1,16 +1,18 @@
 // A line record of a park file, and its rules.
+use crate::header::Header;
 use crate::meter;
 use crate::number;
 use crate::rule;
 ghost use mathlib.Core.Path.{_≡_};
 ghost use mathlib.Core.Bool.{cond};
-ghost use Prim.Native.Nat.{ℕ, _+_, _^_, _≤_, _<_};
+ghost use Prim.Native.Nat.{ℕ, _+_, _*_, _^_, _≤_, _<_};
+ghost use lib.Dec.{eqb};
 ghost use lib.ListN.{length};
-ghost use Rattle.park_format.specs.Format.{lineSize};
+ghost use Rattle.park_format.specs.Format.{lineSize, numberAt, shortestLine};
 ghost use Rattle.park_format.specs.Inner.Stored.{Stored};
 ghost use Rattle.park_format.specs.Made.{lineBytes};
 ghost use Rattle.park_format.specs.Park.{lineAt};
-ghost use Rattle.park_format.specs.Rules.{refusalAt, firstBroken, lineRules, measuresReactive, measuresGenerated, measuresNight, backwards, bothNetwork, endAbove, wrongMeters, readingAbove, wrongReadings};
+ghost use Rattle.park_format.specs.Rules.{refusalAt, firstBroken, lineRules, measuresReactive, measuresGenerated, measuresNight, measuresProduced, backwards, bothNetwork, endAbove, wrongMeters, readingAbove, wrongReadings};
 
 pub struct Line {
     // The site that the line comes from, and the one it goes to; 0 is the network.
@@ -25,11 +27,15 @@ pub struct Line {
     pub reactive: u32,
     pub generated: u32,
     pub night: u32,
+    // Active generation, kWh; 0 in version 1.
+    pub produced: u32,
 }
 
 impl Line {
-    // Bytes.
+    // Bytes in version 1, and from version 2 on.
     pub const LEN: usize = 21;
+
+    pub const LATER_LEN: usize = 25;
 
     // Where the fields after the first begin.
     const AT_TO: usize = 1;
@@ -46,15 +52,41 @@ impl Line {
 
     const AT_NIGHT: usize = 17;
 
+    const AT_PRODUCED: usize = 21;
+
     // Limits of rules 16 and 17.
     pub const MOST_EERP: u32 = 5_000;
 
     pub const MOST_READING: u32 = 10_000_000;
 
+    // The bytes of as many lines.
+    pub fn bytes(version: u32, count: usize) -> usize
+        requires { ⌜ count < 2 ^ 32 ⌝ }
+        ensures size { λ r. ⌜ r ≡ lineSize version * count ⌝ }
+        ensures most { λ r. ⌜ r ≤ 25 * count ⌝ }
+    {
+        if version == Header::FIRST_VERSION {
+            return Line::LEN * count;
+        }
+        Line::LATER_LEN * count
+    }
+
+    // The active generation in the record that starts at a position; 0 in version 1.
+    fn produced_at(file: &[u8], version: u32, at: usize) -> u32
+        requires { ⌜ at + lineSize version ≤ length (now file) ⌝ }
+        ensures { λ r. ⌜ r ≡ cond (eqb version 1) 0 (numberAt 4 (now (file .entry)) (at + 21)) ⌝ }
+    {
+        if version == Header::FIRST_VERSION {
+            return 0;
+        }
+        number::four(file, at + Line::AT_PRODUCED)
+    }
+
     // The record that starts at a position, all of it within the file.
-    pub fn read(file: &[u8], at: usize) -> Line
-        requires { ⌜ at + lineSize ≤ length (now file) ⌝ }
-        ensures { λ r. ⌜ r ≡ lineAt (now (file .entry)) at ⌝ }
+    pub fn read(file: &[u8], version: u32, at: usize) -> Line
+        requires within { ⌜ at + lineSize version ≤ length (now file) ⌝ }
+        requires first { ⌜ at + shortestLine ≤ length (now file) ⌝ }
+        ensures { λ r. ⌜ r ≡ lineAt version (now (file .entry)) at ⌝ }
     {
         Line {
             from: number::one(file, at),
@@ -65,13 +97,15 @@ impl Line {
             reactive: number::four(file, at + Line::AT_REACTIVE),
             generated: number::four(file, at + Line::AT_GENERATED),
             night: number::four(file, at + Line::AT_NIGHT),
+            produced: Line::produced_at(file, version, at),
         }
     }
 
-    // Writes the record from a position on, all of it within the file: of a number that is too large for its field, the lowest bytes.
+    // Writes the record of version 1 from a position on, all of it within the file: of a number that is too large for its field, the lowest
+    // bytes.
     pub fn write(self, file: &mut [u8], at: usize)
-        requires { ⌜ at + lineSize ≤ length (now file) ⌝ }
-        ensures { λ _. ⌜ Stored (lineBytes self) at (now (file .entry)) (now (file .exit)) ⌝ }
+        requires { ⌜ at + shortestLine ≤ length (now file) ⌝ }
+        ensures { λ _. ⌜ Stored (lineBytes 1 self) at (now (file .entry)) (now (file .exit)) ⌝ }
     {
         number::write_one(file, at, self.from);
         number::write_one(file, at + Line::AT_TO, self.to);
@@ -104,6 +138,13 @@ impl Line {
         meter::night(self.meters)
     }
 
+    // Whether the line has the meter of active generation.
+    fn measures_produced(self) -> bool
+        ensures { λ r. ⌜ r ≡ measuresProduced (self .meters) ⌝ }
+    {
+        meter::produced(self.meters)
+    }
+
     // Rule 14: an end is above the number of sites.
     fn end_above(self, sites: u32) -> bool
         ensures { λ r. ⌜ r ≡ endAbove sites self ⌝ }
@@ -125,22 +166,31 @@ impl Line {
         (self.from != 0) & ((self.to != 0) & (self.to <= self.from))
     }
 
-    // Rule 15: the meter mark is none of those accepted here. Beside each stand the signs of columns 5 to 9 in the table of annex item 10.
-    // A+ is + on every line, and no mark speaks of A–.
-    fn wrong_meters(self) -> bool
-        ensures { λ r. ⌜ r ≡ wrongMeters (self .meters) ⌝ }
+    // Rule 15: the meter mark is none of those that the version accepts. Beside each stand the signs of columns 5 to 9 in the table of annex
+    // item 10. A+ is + on every line, and version 1 says nothing of A–.
+    fn wrong_meters(self, version: u32) -> bool
+        ensures { λ r. ⌜ r ≡ wrongMeters version (self .meters) ⌝ }
     {
+        let later = version != Header::FIRST_VERSION;
         let mark = self.meters;
         let accepted = match mark {
             //            A+ Р+ A– Р– ЗН
-            0 => true, // +  –     –  –   active consumption
-            1 => true, // +  +     –  –   and reactive consumption
-            2 => true, // +  –     +  –   and reactive generation
-            3 => true, // +  +     +  –   and reactive consumption, reactive generation
+            0 => true, // +  –  –  –  –   active consumption
+            1 => true, // +  +  –  –  –   and reactive consumption
+            2 => true, // +  –  –  +  –   and reactive generation
+            3 => true, // +  +  –  +  –   and reactive consumption, reactive generation
             4..=5 => false, // ЗН without Р–: the night valley without reactive generation
-            6 => true, // +  –     +  +   and reactive generation, its night valley
-            7 => true, // +  +     +  +   and reactive consumption, reactive generation, its night valley
-            _ => false, // 8 and above: no such meters
+            6 => true, // +  –  –  +  +   and reactive generation, its night valley
+            7 => true, // +  +  –  +  +   and reactive consumption, reactive generation, its night valley
+            //              A+ Р+ A– Р– ЗН
+            8 => later, //  +  –  +  –  –   and active generation
+            9 => later, //  +  +  +  –  –   and active generation, reactive consumption
+            10 => later, // +  –  +  +  –   and active generation, reactive generation
+            11 => later, // +  +  +  +  –   and active generation, reactive consumption, reactive generation
+            12..=13 => false, // ЗН without Р–: as 4 and 5
+            14 => later, // +  –  +  +  +   and active generation, reactive generation, its night valley
+            15 => later, // +  +  +  +  +   and all of these
+            _ => false, // 16 and above: no such meters
         };
         !accepted
     }
@@ -151,7 +201,8 @@ impl Line {
     {
         (Line::MOST_READING < self.active)
             | ((Line::MOST_READING < self.reactive)
-                | ((Line::MOST_READING < self.generated) | (Line::MOST_READING < self.night)))
+                | ((Line::MOST_READING < self.generated)
+                    | ((Line::MOST_READING < self.night) | (Line::MOST_READING < self.produced))))
     }
 
     // A reading that has no meter; 0 where it has one.
@@ -169,19 +220,20 @@ impl Line {
         let reactive = Line::unmetered(self.measures_reactive(), self.reactive);
         let generated = Line::unmetered(self.measures_generated(), self.generated);
         let night = Line::unmetered(self.measures_night(), self.night);
-        (reactive + generated + night != 0) | (self.generated < self.night)
+        let produced = Line::unmetered(self.measures_produced(), self.produced);
+        (reactive + generated + night + produced != 0) | (self.generated < self.night)
     }
 
-    // The number of the first rule that the line breaks in a park of as many sites; 0 if it breaks none.
-    pub fn broken(self, sites: u32) -> u32
-        ensures { λ r. ⌜ ((place : ℕ) → refusalAt r place ≡ firstBroken (lineRules sites place self)) ⌝ }
+    // The number of the first rule that the line breaks in a park with that header; 0 if it breaks none.
+    pub fn broken(self, header: Header) -> u32
+        ensures { λ r. ⌜ ((place : ℕ) → refusalAt r place ≡ firstBroken (lineRules header place self)) ⌝ }
     {
         // Every test is made before the first is asked: accepted lines differ in their marks, and a jump by the mark alone would often be
         // guessed wrongly by the processor.
-        let end_above = self.end_above(sites);
+        let end_above = self.end_above(header.sites);
         let both_network = self.both_network();
         let backwards = self.backwards();
-        let wrong_meters = self.wrong_meters();
+        let wrong_meters = self.wrong_meters(header.version);
         let wrong_eerp = rule::zero_or_above(Line::MOST_EERP, self.eerp);
         let reading_above = self.reading_above();
         let wrong_readings = self.wrong_readings();

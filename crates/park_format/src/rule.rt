@@ -3,7 +3,7 @@ ghost use mathlib.Core.Path.{_≡_};
 ghost use Rattle.park_format.specs.Rules.{zeroOrAbove};
 
 pub struct Refusal {
-    // The rule's number, and the place: a site or a line counted from 1, else 0.
+    // The rule's number, and the place: a site, a line or a generator counted from 1, else 0.
     pub number: u32,
     pub place: u32,
 }

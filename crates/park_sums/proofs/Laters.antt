@@ -16,6 +16,7 @@ use Rattle.park_format.specs.Accepted.{KeptLine}
 use Rattle.park_format.specs.Limits.{mostLoss, mostLosses, mostNet, mostReading}
 use Rattle.park_format.specs.Park.{transits}
 use Rattle.park_format.specs.Rules.{measuresReactive}
+use Rattle.park_format.specs.declared.header.Header.{Header}
 use Rattle.park_format.specs.declared.line.Line.{Line}
 use Rattle.park_charge.proofs.Bounds.{estimatedOut-le}
 use Rattle.park_sums.specs.Sums.{sumBy}
@@ -82,12 +83,12 @@ less-near : (z : ℤ) (n : ℕ) → natAbs z ≤ mostLosses → n ≤ mostLosses
 less-near z n h k = natAbs-le (z -ℤ pos n) (omega (arith, lost-mag z n))
 
 -- a row of the second walk has room for a line more
-pub later-room : (s k tg : ℕ) (lines : List Line) → Few s lines → {row before : List ℤ} → IsLess tg row before (transits k lines) → IsNear before → Room row
-later-room s k tg lines few {row} {before} b near =
+pub later-room : (head : Header) (k tg : ℕ) (lines : List Line) → Few head lines → {row before : List ℤ} → IsLess tg row before (transits k lines) → IsNear before → Room row
+later-room head k tg lines few {row} {before} b near =
     record {
       numbers = b .numbers;
       near =
           λ i h. rw (b .less i h)
           (less-near (at before i) (sumBy (takenLater tg i) (transits k lines)) (near .near i h)
-          (sum-small (KeptLine s) (takenLater tg i) mostLoss (λ x y. later-small tg x (kept-small s x y) .small i h) (λ (x : Line). eqb (x .from) k) lines (few .kept) (few .few)));
+          (sum-small (KeptLine head) (takenLater tg i) mostLoss (λ x y. later-small tg x (kept-small head x y) .small i h) (λ (x : Line). eqb (x .from) k) lines (few .kept) (few .few)));
     }

@@ -6,3 +6,4 @@ pub mod Laters
 pub mod Meters
 pub mod OneSite
 pub mod Turns
+pub mod Owns

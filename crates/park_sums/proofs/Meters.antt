@@ -8,20 +8,21 @@ use mathlib.Core.List.{List, [], _∷_, _++_, append-nil}
 use borrow.Author.Tests.{eq-eqb, ne-eqb}
 use lib.Bits.{bitAnd}
 use lib.Dec.{eqb}
+use lib.IntN.{ℤ}
 use lib.ListN.{getD, set, length-set}
-use Rattle.park_format.specs.Limits.{mostMark}
+use Rattle.park_format.specs.Limits.{latestVersion, mostMark}
 use Rattle.park_format.specs.Park.{select}
 use Rattle.park_format.specs.Rules.{measuresGenerated, measuresNight}
 use Rattle.park_format.specs.declared.line.Line.{Line}
 use Rattle.park_format.proofs.Bits.{both-generated, both-night}
 use Rattle.park_format.proofs.Lists.{select-append}
 use Rattle.park_sums.specs.Sums.{allOf}
-use Rattle.park_sums.specs.Inner.Rows.{AreCommon, Common, places}
-use Rattle.park_sums.proofs.Nets.{store}
+use Rattle.park_sums.specs.Inner.Rows.{AddsLine, AreCommon, AreSums, Common, fromOf, places, toOf}
+use Rattle.park_sums.proofs.Nets.{after-input, after-transit, store}
 use Rattle.park_sums.proofs.Sums.{all-snoc}
 
 -- no line lacks a meter yet
-pub common-none : Common mostMark []
+pub common-none : Common (mostMark latestVersion) []
 unfolding allOf
 common-none = record { generated = refl; night = refl }
 
@@ -61,3 +62,13 @@ after-common {marks} end lines l h b {v} e =
 
     at : ℕ → List Line → List Line
     at k xs = select (λ (x : Line). eqb (end x) k) xs
+
+-- all sums, with a line added at both its ends
+pub line-added : {rows after : List (List ℤ)} {inputMeters transitMeters inputsAfter transitsAfter : List ℕ} (lines : List Line) (l : Line) → l .to < places → l .from < places → AreSums rows inputMeters transitMeters lines → AddsLine l rows after inputMeters transitMeters inputsAfter transitsAfter → AreSums after inputsAfter transitsAfter (lines ++ (l ∷ []))
+line-added lines l to from sums a =
+    rw (a .rowsAre, a .inputsAre, a .transitsAre)
+    (record {
+      net = after-transit (lines ++ (l ∷ [])) lines l from (after-input lines lines l to (sums .net) (a .isInput)) (a .isTransit);
+      inputs = after-common toOf lines l to (sums .inputs) refl;
+      transits = after-common fromOf lines l from (sums .transits) refl;
+    })

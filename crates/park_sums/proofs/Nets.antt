@@ -1,7 +1,7 @@
 -- Laws of the walk over rows: a store into one of them, and a line more at one of its ends.
 -- Assumes nothing.
 use Prim.Native.Nat.{ℕ, _+_, _≤_, _<_, zero-le}
-use native.Mathlib.Nat.{mul-le-mul, le-trans, add-zero}
+use native.Mathlib.Nat.{add-le-add, mul-le-mul, le-trans, add-zero}
 use native.Mathlib.Omega.{arith}
 use mathlib.Core.Path.{_≡_, refl, sym, ap, subst, _∙_}
 use mathlib.Core.Bool.{Bool, true, false}
@@ -14,6 +14,7 @@ use lib.Seq.{getD-set-same, getD-set-other}
 use Rattle.park_format.specs.Park.{inputs, transits, select}
 use Rattle.park_format.specs.Rules.{measuresReactive}
 use Rattle.park_format.specs.Accepted.{Every, KeptLine}
+use Rattle.park_format.specs.declared.header.Header.{Header}
 use Rattle.park_format.specs.declared.line.Line.{Line}
 use Rattle.park_format.proofs.Lists.{every-getD}
 use Rattle.park_charge.proofs.Bounds.{inflow-le}
@@ -21,8 +22,8 @@ use Rattle.park_format.specs.Limits.{mostLines, mostLoss, mostLosses, mostReadi
 use Rattle.park_sums.specs.Sums.{sumBy}
 use Rattle.park_sums.specs.Flows.{flowIn}
 use Rattle.park_sums.proofs.Sums.{sumBy-snoc, sumBy-select, sum-small}
-use Rattle.park_sums.proofs.Signed.{difference-le, net-gain, take-both}
-use Rattle.park_sums.specs.Inner.Rows.{gain, taken, gains, takes, AreNet, IsDifference, IsNear, IsNet, IsSum, places, Room, size, SmallLine, SmallNumbers, when}
+use Rattle.park_sums.proofs.Signed.{difference-le, gained-size, net-gain, take-both}
+use Rattle.park_sums.specs.Inner.Rows.{at, gain, taken, gains, takes, AreNear, AreNet, IsDifference, IsNear, IsNet, IsSum, places, Room, size, SmallLine, SmallNumbers, when}
 
 -- places that each hold P, after a store of what holds Q, where P elsewhere is Q
 module _ {ℓ} {A : Type ℓ} (P Q : ℕ → A → Type 0) (n : ℕ) (xs : List A) (d : A) where
@@ -135,31 +136,49 @@ module _ (l : Line) (s : SmallLine l) where
   takes-numbers = record { numbers = refl; small = λ i h. taken-le i }
 
 -- lines of an accepted file, no more than a park has
-pub record Few (s : ℕ) (lines : List Line) : Type 0 where
-  pub kept : Every (KeptLine s) lines
+pub record Few (head : Header) (lines : List Line) : Type 0 where
+  pub kept : Every (KeptLine head) lines
   pub few : length lines ≤ mostLines
 
 -- a line that keeps its rules is small
-pub kept-small : (s : ℕ) (l : Line) → KeptLine s l → SmallLine l
-kept-small s l k = record { active = k .active; reactive = k .reactive; eerp = k .eerp .1; generated = k .generated; night = k .night }
+pub kept-small : (head : Header) (l : Line) → KeptLine head l → SmallLine l
+kept-small head l k = record { active = k .active; reactive = k .reactive; eerp = k .eerp .1; generated = k .generated; night = k .night }
 
 -- each sum over such lines is small, and so are the rows
-module _ (s : ℕ) (lines : List Line) (f : Few s lines) where
+module _ (head : Header) (lines : List Line) (f : Few head lines) where
   pub gains-small : (i : ℕ) (test : Line → Bool) → sumBy (gain i) (select test lines) ≤ mostLosses
-  gains-small i test = sum-small (KeptLine s) (gain i) mostLoss (λ x y. gain-le x (kept-small s x y) i) test lines (f .kept) (f .few)
+  gains-small i test = sum-small (KeptLine head) (gain i) mostLoss (λ x y. gain-le x (kept-small head x y) i) test lines (f .kept) (f .few)
 
   pub takes-small : (i : ℕ) (test : Line → Bool) → sumBy (taken i) (select test lines) ≤ mostLosses
-  takes-small i test = sum-small (KeptLine s) (taken i) mostLoss (λ x y. taken-le x (kept-small s x y) i) test lines (f .kept) (f .few)
+  takes-small i test = sum-small (KeptLine head) (taken i) mostLoss (λ x y. taken-le x (kept-small head x y) i) test lines (f .kept) (f .few)
 
-module _ (s k : ℕ) (ins outs : List Line) (i : Few s ins) (o : Few s outs) {row : List ℤ} (b : IsNet row (inputs k ins) (transits k outs)) where
+module _ (head : Header) (k : ℕ) (ins outs : List Line) (i : Few head ins) (o : Few head outs) {row : List ℤ} (b : IsNet row (inputs k ins) (transits k outs)) where
   pub net-near : IsNear row
   net-near =
       record {
         numbers = b .numbers;
         near =
             λ m h. rw (b .net m h)
-            (difference-le _ _ (gains-small s ins i m (λ (x : Line). eqb (x .to) k)) (takes-small s outs o m (λ (x : Line). eqb (x .from) k)));
+            (difference-le _ _ (gains-small head ins i m (λ (x : Line). eqb (x .to) k)) (takes-small head outs o m (λ (x : Line). eqb (x .from) k)));
       }
 
   pub net-room : Room row
   net-room = record { numbers = b .numbers; near = λ m h. le-trans (net-near .near m h) (lit≤ tt) }
+
+-- rows with room for a line at both its ends
+pub near-room : {row : List ℤ} → IsNear row → Room row
+near-room near = record { numbers = near .numbers; near = λ i h. le-trans (near .near i h) (lit≤ tt) }
+
+pub sum-room : {row before : List ℤ} (l : Line) → SmallLine l → IsNear before → IsSum row before (gains l) → Room row
+sum-room {before = before} l small near sum =
+    record {
+      numbers = sum .numbers;
+      near =
+          λ i h. rw (sum .sum i h)
+          (le-trans (gained-size (at before i) (gain i l)) (le-trans (add-le-add (near .near i h) (gain-le l small i)) (lit≤ tt)));
+    }
+
+pub both-room : (rows : List (List ℤ)) (l : Line) → SmallLine l → AreNear rows → l .to < places → {v : List ℤ} → IsSum v (getD rows (l .to) []) (gains l) → (k : ℕ) → k < places → Room (getD (set rows (l .to) v) k [])
+both-room rows l small near to sum k h =
+    store (λ (k : ℕ) (x : List ℤ). IsNear x) (λ (k : ℕ) (x : List ℤ). Room x) places rows [] (near .row) (l .to) (omega (arith, near .sites))
+    (sum-room l small (near .row (l .to) to) sum) (λ k x n. near-room) k h

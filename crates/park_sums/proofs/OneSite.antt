@@ -8,16 +8,16 @@ use borrow.Author.Tests.{eq-eqb, ne-eqb}
 use lib.Dec.{eqb}
 use lib.IntN.{pos}
 use lib.ListN.{replicate}
-use Rattle.park_format.specs.Limits.{mostMark}
+use Rattle.park_format.specs.Limits.{latestVersion, mostMark}
 use Rattle.park_format.specs.Park.{inputs, select, transits}
 use Rattle.park_format.specs.declared.line.Line.{Line}
-use Rattle.park_sums.specs.Inner.Rows.{InputAt, IsNet, IsSiteSums, size, TransitAt}
+use Rattle.park_sums.specs.Inner.Rows.{InputAt, IsNear, IsNet, IsSiteSums, Room, size, SmallLine, TransitAt}
 use Rattle.park_sums.specs.declared.walk.SiteSums.{SiteSums}
 use Rattle.park_sums.proofs.Meters.{common-elsewhere, common-here, common-none}
-use Rattle.park_sums.proofs.Nets.{input-elsewhere, input-here, net-none, transit-elsewhere, transit-here}
+use Rattle.park_sums.proofs.Nets.{input-elsewhere, input-here, near-room, net-none, sum-room, transit-elsewhere, transit-here}
 
 -- no line yet
-pub sums-none : (k : ℕ) (s : SiteSums) → s .row ≡ replicate size (pos 0) → s .«input_meters» ≡ mostMark → s .«transit_meters» ≡ mostMark → IsSiteSums k s [] []
+pub sums-none : (k : ℕ) (s : SiteSums) → s .row ≡ replicate size (pos 0) → s .«input_meters» ≡ mostMark latestVersion → s .«transit_meters» ≡ mostMark latestVersion → IsSiteSums k s [] []
 unfolding select
 sums-none k s r i t = record { net = rw r net-none; inputs = rw i common-none; transits = rw t common-none }
 
@@ -67,3 +67,11 @@ module _ (k : ℕ) {before after : SiteSums} (lines : List Line) (l : Line) wher
             inputs = b .inputs;
             transits = common-elsewhere (λ (x : Line). eqb (x .from) k) lines l (ne-eqb (l .from) k e) (b .transits);
           })
+
+-- sums with room for a line at both its ends
+pub room-after : (k : ℕ) {before after : SiteSums} (l : Line) → SmallLine l → IsNear (before .row) → InputAt k l before after → Room (after .row)
+room-after k {before} {after} l small near at-input = by (ℕ-discrete (l .to) k)
+  where
+    by : Dec (l .to ≡ k) → Room (after .row)
+    by (yes e) = sum-room l small near (at-input .row e)
+    by (no e) = rw (at-input .elsewhere e) (near-room near)

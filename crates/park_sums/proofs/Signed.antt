@@ -37,10 +37,27 @@ module _ (z : ℤ) (n : ℕ) (near : natAbs z ≤ mostNet) (small : n ≤ mostLo
   pub lost-fits : SFits w64 (z -ℤ pos n)
   lost-fits = record { sfits = lt-of-le-of-lt (lost-mag z n) (omega arith) }
 
+-- a sum is no farther from 0 than both
+pub gained-size : (z : ℤ) (n : ℕ) → natAbs (z +ℤ pos n) ≤ natAbs z + n
+gained-size (pos a) n = omega arith
+gained-size (negsuc a) n = omega (arith, size-is (pos n -ℤ pos (suc a)), above-is n (suc a), cut-is n (suc a))
+
+lost-size : (z : ℤ) (n : ℕ) → natAbs (z -ℤ pos n) ≤ natAbs z + n
+lost-size z zero = gained-size z 0
+lost-size (pos a) (suc n) = omega (arith, size-is (pos a -ℤ pos (suc n)), above-is a (suc n), cut-is a (suc n))
+lost-size (negsuc a) (suc n) = omega arith
+
+pub sum-size : (z y : ℤ) → natAbs (z +ℤ y) ≤ natAbs z + natAbs y
+sum-size z (pos n) = gained-size z n
+sum-size z (negsuc n) = lost-size z (suc n)
+
 -- a sum that is near enough to 0 fits
+pub small-fits : (z : ℤ) → natAbs z < 2 ^ 63 → SFits w64 z
+small-fits (pos n) h = record { sfits = omega arith }
+small-fits (negsuc n) h = record { sfits = omega arith }
+
 pub near-fits : (z : ℤ) → natAbs z ≤ mostNet → SFits w64 z
-near-fits (pos n) h = record { sfits = omega arith }
-near-fits (negsuc n) h = record { sfits = omega arith }
+near-fits z h = small-fits z (omega arith)
 
 -- the machine reads a number that is small enough as it is
 pub read-small : (n : ℕ) → n < 2 ^ 63 → toZ w64 n ≡ pos n

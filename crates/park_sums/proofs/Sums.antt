@@ -10,7 +10,6 @@ use lib.ListN.{length}
 use Rattle.park_format.proofs.Lists.{every-map}
 use Rattle.park_sums.specs.Sums.{sumBy, allOf}
 use Rattle.park_sums.specs.Inner.Rows.{when}
-use Rattle.park_format.specs.Limits.{mostLines}
 use Rattle.park_format.specs.Park.{select}
 use Rattle.park_format.specs.Accepted.{Every}
 
@@ -78,8 +77,8 @@ module _ {ℓ} {A : Type ℓ} where
       by rest true = omega arith
       by rest false = omega arith
 
-  -- a sum over the values that pass a test, of a list of at most as many values as a park has lines that are each bounded
-  pub sum-small : (P : A → Type 0) (f : A → ℕ) (most : ℕ) → ((x : A) → P x → f x ≤ most) → (test : A → Bool) (xs : List A) → Every P xs → length xs ≤ mostLines → sumBy f (select test xs) ≤ most * mostLines
+  -- a sum over the values that pass a test, of a list of at most so many values that are each bounded
+  pub sum-small : (P : A → Type 0) (f : A → ℕ) (most : ℕ) → ((x : A) → P x → f x ≤ most) → (test : A → Bool) (xs : List A) → Every P xs → {n : ℕ} → length xs ≤ n → sumBy f (select test xs) ≤ most * n
   sum-small P f most small test xs e h =
       le-trans (sumBy-le f most (select test xs) (every-select (λ (x : A). f x ≤ most) test xs (every-map P (λ (x : A). f x ≤ most) small xs e)))
       (mul-le-mul-left most (le-trans (length-select test xs) h))

@@ -22,8 +22,9 @@ pub record Turn (h : Header) (file : List ℕ) (i : ℕ) (l : Line) : Type 0 whe
   pub from : l .from < places
   pub small : SmallLine l
   -- the lines before it, and with it
-  pub earlier : Few (h .sites) (listOf (lineOf h file) i)
-  pub next : Few (h .sites) (listOf (lineOf h file) i ++ (l ∷ []))
+  pub keeps : KeptLine h l
+  pub earlier : Few h (listOf (lineOf h file) i)
+  pub next : Few h (listOf (lineOf h file) i ++ (l ∷ []))
   pub more : listOf (lineOf h file) (i + 1) ≡ listOf (lineOf h file) i ++ (l ∷ [])
 
 module _ (file : List ℕ) (accepted : IsAccepted file) (h : Header) (read : h ≡ headerOf file) where
@@ -43,32 +44,33 @@ module _ (file : List ℕ) (accepted : IsAccepted file) (h : Header) (read : h �
   pub walked-all : {lines i : ℕ} → lines ≡ h .lines → i ≤ lines → lines ≤ i → listOf (lineOf h file) i ≡ parkOf file .lines
   walked-all count within ended = ap (listOf (lineOf h file)) (le-antisymm within ended ∙ count) ∙ all-lines
 
-  line-kept : (i : ℕ) → i < h .lines → KeptLine (h .sites) (lineOf h file i)
+  line-kept : (i : ℕ) → i < h .lines → KeptLine h (lineOf h file i)
   unfolding parkOf
   line-kept =
-      subst (λ (x : Header). (i : ℕ) → i < x .lines → KeptLine (x .sites) (lineOf x file i)) (sym read)
-      (every-at (KeptLine (headerOf file .sites)) (lineOf (headerOf file) file) (headerOf file .lines) (kept file accepted .lines))
+      subst (λ (x : Header). (i : ℕ) → i < x .lines → KeptLine x (lineOf x file i)) (sym read)
+      (every-at (KeptLine (headerOf file)) (lineOf (headerOf file) file) (headerOf file .lines) (kept file accepted .lines))
 
-  pub few : (i : ℕ) → i ≤ h .lines → Few (h .sites) (listOf (lineOf h file) i)
+  pub few : (i : ℕ) → i ≤ h .lines → Few h (listOf (lineOf h file) i)
   few i m =
       record {
-        kept = every-listOf (KeptLine (h .sites)) (lineOf h file) i (λ j l. line-kept j (omega arith));
+        kept = every-listOf (KeptLine h) (lineOf h file) i (λ j l. line-kept j (omega arith));
         few = omega (arith, length-listOf (lineOf h file) i, header-kept .lines);
       }
 
-  pub all-few : Few (h .sites) (parkOf file .lines)
-  all-few = subst (Few (h .sites)) all-lines (few (h .lines) (omega arith))
+  pub all-few : Few h (parkOf file .lines)
+  all-few = subst (Few h) all-lines (few (h .lines) (omega arith))
 
   pub turn : (i : ℕ) (l : Line) → i < h .lines → l ≡ lineOf h file i → Turn h file i l
   turn i l m e =
-      let keeps : KeptLine (h .sites) l = subst (KeptLine (h .sites)) (sym e) (line-kept i m) in
+      let keeps : KeptLine h l = subst (KeptLine h) (sym e) (line-kept i m) in
       let more : listOf (lineOf h file) (i + 1) ≡ listOf (lineOf h file) i ++ (l ∷ []) =
       listOf-next (lineOf h file) i ∙ ap (λ (x : Line). listOf (lineOf h file) i ++ (x ∷ [])) (sym e) in
       record {
         to = omega (arith, keeps .to, header-kept .sites);
         from = omega (arith, keeps .from, header-kept .sites);
-        small = kept-small (h .sites) l keeps;
+        small = kept-small h l keeps;
+        keeps = keeps;
         earlier = few i (omega arith);
-        next = subst (Few (h .sites)) more (few (i + 1) (omega arith));
+        next = subst (Few h) more (few (i + 1) (omega arith));
         more = more;
       }

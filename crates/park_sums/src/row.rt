@@ -5,7 +5,7 @@ use park_format::line::Line;
 ghost use mathlib.Core.Path.{_≡_};
 ghost use Prim.Native.Nat.{_*_, _≤_, _<_};
 ghost use lib.IntN.{pos, _+ℤ_, _-ℤ_, natAbs};
-ghost use Rattle.park_format.specs.Limits.{mostLoss, mostLosses, mostNet};
+ghost use Rattle.park_format.specs.Limits.{mostActive, mostLoss, mostLosses, mostNet};
 ghost use Rattle.park_charge.specs.Losses.{aboveZero, splitSum};
 ghost use Rattle.park_sums.specs.Inner.Rows.{at, gains, losses, IsDifference, IsSum, Room, RoomForTangent, size, SmallLine, SmallNumbers, takes, takesLater, tangentFrom, when};
 
@@ -41,7 +41,7 @@ fn when(on: bool, x: u64) -> u64
 }
 
 // A sum with a number added to it.
-fn plus(sum: i64, more: u64) -> i64
+pub fn plus(sum: i64, more: u64) -> i64
     requires { ⌜ (natAbs sum ≤ mostNet) × (more ≤ mostLoss) ⌝ }
     ensures { λ r. ⌜ r ≡ sum +ℤ pos more ⌝ }
 {
@@ -49,7 +49,7 @@ fn plus(sum: i64, more: u64) -> i64
 }
 
 // A sum with a number taken from it.
-fn minus(sum: i64, less: u64) -> i64
+pub fn minus(sum: i64, less: u64) -> i64
     requires { ⌜ (natAbs sum ≤ mostNet) × (less ≤ mostLoss) ⌝ }
     ensures { λ r. ⌜ r ≡ sum -ℤ pos less ⌝ }
 {
@@ -180,10 +180,19 @@ pub fn split(row: [i64; SIZE]) -> Split
     park_charge::split_sum(row[LOSSES])
 }
 
-// Step 2: the tangent of a row after the first walk.
-pub fn tangent(row: [i64; SIZE]) -> u64
-    requires { ⌜ RoomForTangent row ⌝ }
-    ensures { λ r. ⌜ r ≡ tangentFrom row ⌝ }
+// The sum of two numbers, 0 where it is negative.
+fn above_zero(a: i64, b: i64) -> u64
+    requires { ⌜ (natAbs a ≤ mostNet) × (natAbs b ≤ mostNet) ⌝ }
+    ensures sum { λ r. ⌜ r ≡ aboveZero (a +ℤ b) ⌝ }
+    ensures most { λ r. ⌜ r ≤ mostActive ⌝ }
 {
-    park_charge::tangent(net(row, ACTIVE), net(row, FLOW))
+    park_charge::above_zero(a + b)
+}
+
+// Step 2: the tangent of a row after the first walk, with what is added to WP0 for the site's generators.
+pub fn tangent(row: [i64; SIZE], more: i64) -> u64
+    requires { ⌜ (RoomForTangent row) × (natAbs more ≤ mostNet) ⌝ }
+    ensures { λ r. ⌜ r ≡ tangentFrom more row ⌝ }
+{
+    park_charge::tangent(above_zero(row[ACTIVE], more), net(row, FLOW))
 }

@@ -9,10 +9,10 @@ use lib.Dec.{eqb}
 use lib.IntN.{ℤ, pos, negsuc}
 use borrow.Author.Tests.{eqb-true, eq-eqb, ne-eqb}
 use Rattle.park_format.proofs.Tests.{and-both}
-use Rattle.park_format.specs.Park.{headerOf, lineAt, lineOf, listOf, parkOf, select, siteAt, siteOf}
-use Rattle.park_format.specs.Format.{fieldsAt, numberAt}
+use Rattle.park_format.specs.Park.{generatorAt, generatorOf, headerOf, lineAt, lineOf, listOf, parkOf, select, siteAt, siteOf}
+use Rattle.park_format.specs.Format.{fieldsAt, numberAt, headerSize, lineSize}
 use Rattle.park_format.specs.Made.{bytesFor, bytesOf, fileOf, joined}
-use Rattle.park_format.specs.Rules.{each, fileRules, firstBroken, headerRules, inputRules, lineRules, measuresReactive, mostHours, refusal, rulesWith, siteRules}
+use Rattle.park_format.specs.Rules.{each, fileRules, firstBroken, generatorRules, headerRules, inputRules, lineRules, measuresReactive, mostHours, refusal, rulesWith, siteRules}
 use Rattle.park_format.specs.Accepted.{Every}
 use Rattle.park_format.specs.declared.line.Line.{Line}
 use Rattle.park_charge.specs.Rounding.{rounded}
@@ -29,19 +29,26 @@ use Rattle.park_bill.specs.Reply.{billsOf, callRefusal}
 use Rattle.park_text.specs.Answer.{answerTo}
 use Rattle.park_text.specs.Ascii.{ascii}
 use Rattle.park_text.specs.Text.{billText, decimal, digitsWithin, fieldsText, namesText, refusalText, siteText, sitesText}
-use Rattle.park_text.specs.Cases.{accepts, agree, AllCases, Case, cases, equal, holds, measuredLine, numbers, same, Says, Whether}
-use Rattle.park_text.specs.Cases.Case.{balanceCase, chargeCase, estimateCase, fileCase, formerCase, printed, reasonCase, surchargeCase, tangentCase, wholeBill}
+use Rattle.park_text.specs.Cases.{accepts, agree, AllCases, Case, cases, equal, holds, measuredLine, numbers, refuses, same, Says, Whether}
+use Rattle.park_text.specs.Cases.Case.{activeCase, balanceCase, chargeCase, estimateCase, fileCase, formerCase, printed, reasonCase, refusedCase, surchargeCase, tangentCase, wholeBill}
+use Rattle.park_bill.proofs.Outcomes.{loss-balance}
 use Rattle.park_bill.proofs.Balances.{over-cong, over-none, over-zero}
 
 -- the test
 all-hold : allOf holds cases ≡ true
-unfolding holds bytesFor bytesOf fileOf joined fieldsAt numberAt headerOf lineAt lineOf listOf parkOf select siteAt siteOf each fileRules firstBroken headerRules inputRules lineRules mostHours refusal rulesWith siteRules rounded inflow estimatedOut outflow tangent aboveZero cut computedGeneration formerTangent formerSurcharge computedCharge discount lossCharge reason factorAt surcharge surchargeFactor allOf sumBy consumptionAt generationCharge generationOf tangentOf weightedAt billsOf callRefusal refusalWith overSites answerTo decimal digitsWithin billText namesText sitesText siteText fieldsText refusalText
+unfolding holds bytesFor bytesOf fileOf joined fieldsAt numberAt headerOf generatorAt generatorOf lineAt lineOf listOf parkOf select siteAt siteOf each fileRules firstBroken generatorRules headerRules headerSize inputRules lineRules lineSize mostHours refusal rulesWith siteRules rounded inflow estimatedOut outflow tangent aboveZero cut computedGeneration formerTangent formerSurcharge computedCharge discount lossCharge reason factorAt surcharge surchargeFactor allOf sumBy consumptionAt generationCharge generationOf tangentOf weightedAt billsOf callRefusal refusalWith overSites answerTo decimal digitsWithin billText namesText sitesText siteText fieldsText refusalText
 all-hold = refl
 
 -- what each part of the test means
 accepts-is : (o : Option (ℕ × ℕ)) → accepts o ≡ true → o ≡ none
 accepts-is none e = refl
 accepts-is (some r) e = absurd (true≢false (sym e))
+
+refuses-is : (number place : ℕ) (o : Option (ℕ × ℕ)) → refuses number place o ≡ true → o ≡ some (number, place)
+refuses-is number place none e = absurd (true≢false (sym e))
+refuses-is number place (some r) e =
+    let h = and-both (eqb (r .0) number) (eqb (r .1) place) e in
+    ap₂ (λ (n p : ℕ). some (n, p)) (eqb-true (r .0) number (h .0)) (eqb-true (r .1) place (h .1))
 
 same-is : (xs ys : List ℕ) → same xs ys ≡ true → xs ≡ ys
 same-is [] [] e = refl
@@ -117,6 +124,10 @@ entry (wholeBill file list settled network) e =
 entry (fileCase file bytes) e = same-is file bytes e
 entry (printed file text) e = same-is _ (ascii text) e
 entry (formerCase file k list) e = same-is _ list e
+entry (refusedCase file number place) e = refuses-is number place (refusal file) e
+entry (activeCase file k wp) e =
+    let a = and-both _ _ e in
+    (accepts-is (refusal file) (a .0), eqb-true _ wp (a .1))
 entry (tangentCase wq wp tg) e = eqb-true _ tg e
 entry (estimateCase tg wp out) e = eqb-true _ out e
 entry (surchargeCase tg pc p2) e = eqb-true _ p2 e
@@ -134,7 +145,13 @@ entry (balanceCase file energy measured balanced uncut) e =
           whether measured _ (measured-is (parkOf file .lines)) (is-measured (parkOf file .lines)) (c .0),
           (
             whether balanced _ (equal-is _ _) (equation _ _) (d .0),
-            whether uncut _ (uncut-is (λ (k : ℕ). numbers file k 4) _) (is-uncut (λ (k : ℕ). numbers file k 4) _) (d .1),
+            (
+              whether uncut _ (uncut-is (λ (k : ℕ). numbers file k 4) _) (is-uncut (λ (k : ℕ). numbers file k 4) _) (d .1),
+              λ m. (
+                loss-balance .1 file (accepts-is (refusal file) (a .0)) m,
+                λ before long. loss-balance .0 file before (accepts-is (refusal file) (a .0)) m long,
+              ),
+            ),
           ),
         ),
       ),

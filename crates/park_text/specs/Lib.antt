@@ -4,4 +4,5 @@ pub mod Buffer
 pub mod Inner
 pub mod Answer
 pub mod Laws
+pub mod Parks
 pub mod Cases

@@ -2,6 +2,7 @@
 use libc::STDIN_FILENO;
 use libc::STDOUT_FILENO;
 use park_bill::call::ParkReply;
+use park_format::file;
 ghost use mathlib.Core.Path.{_≡_};
 ghost use Prim.Native.Nat.{_<_};
 ghost use lib.ListN.{length};
@@ -9,8 +10,8 @@ ghost use Rattle.io.specs.Counts.{Counts};
 ghost use Rattle.parkbill.specs.Answers.{AnswersEvery, sitesBilled};
 ghost use Rattle.parkbill.specs.Read.{ReadInput, ReadMore};
 
-// More bytes than the longest accepted file has, so that a longer input has the answer of those that are read.
-const ROOM: usize = 2048;
+// One byte more than the longest accepted file has, so that a longer input has the answer of those that are read.
+const ROOM: usize = file::LONGEST + 1;
 
 struct Input {
     // The bytes read, which stand at the start of the buffer.

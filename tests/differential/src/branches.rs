@@ -1,7 +1,7 @@
 //! The branches of 01's steps, of its demand 3, of a park's shape, of its limits and of making a
 //! file (02, R-1) that a run must reach; the ends of lines (02, R-2) that it must meet in files and
 //! in lists; and the high tangents (02, R-4) that its generated files and lists must meet; each with
-//! its name in the coverage.
+//! its name in the coverage. Those of generators (02, R-5) are in generator_branches.rs.
 
 macro_rules! branches {
     ($kind:ident, $names:ident: $($branch:ident $name:literal,)*) => {
@@ -11,6 +11,8 @@ macro_rules! branches {
         pub const $names: &[&str] = &[$($name,)*];
     };
 }
+
+pub(crate) use branches;
 
 branches! {
     Branch, NAMES:

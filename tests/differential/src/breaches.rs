@@ -1,15 +1,18 @@
 //! Deliberate breaches of rules 1 to 19, 23 and 24 (01, "Where each thing is checked"; 02, R-2), each
-//! with the number and place it must be refused with. They fit any accepted park; a breach is a few
-//! bytes set, or another length, so that nothing here goes through the calculator.
+//! with the number and place it must be refused with; those that R-5 brought are in
+//! generator_breaches.rs. They fit any accepted park; a breach is a few bytes set, or another length,
+//! so that nothing here goes through the calculator.
 
-use crate::park::{line_offset, site_offset, Park, HEADER_BYTES, MONTH_HOURS};
+use crate::generator_breaches::{of_active_generation, of_counts, wrong_lengths};
+use crate::layout::{Version, GENERATORS_OFFSET, LEAST_BYTES};
+use crate::park::{Park, MONTH_HOURS};
 
 /// A field set to a value: offset, width, value.
 type Patch = (usize, usize, u64);
 
 /// The rules that a file can break, in the order of the table.
-pub const FILE_RULES: [u64; 21] =
-    [1, 2, 3, 4, 5, 6, 7, 8, 9, 10, 11, 12, 13, 14, 23, 24, 15, 16, 17, 18, 19];
+pub const FILE_RULES: [u64; 24] =
+    [1, 2, 3, 4, 5, 6, 7, 8, 25, 9, 10, 11, 12, 13, 14, 23, 24, 15, 16, 17, 18, 26, 27, 19];
 
 #[derive(Clone, Debug)]
 pub struct Breach {
@@ -20,8 +23,12 @@ pub struct Breach {
 }
 
 impl Breach {
-    fn new(number: u64, place: usize, patches: Vec<Patch>) -> Breach {
+    pub fn new(number: u64, place: usize, patches: Vec<Patch>) -> Breach {
         Breach { number, place: place as u64, patches, length: None }
+    }
+
+    pub fn of_length(number: u64, length: usize) -> Breach {
+        Breach { length: Some(length), ..Breach::new(number, 0, vec![]) }
     }
 
     /// The file with the fields set, and only then cut or lengthened (by zero bytes).
@@ -40,38 +47,45 @@ impl Breach {
         order(self.number, self.place)
     }
 
-    /// Whether both set some byte, or both change the length.
+    /// Whether both set some byte, or both change the length or what it has to be, or one cuts off
+    /// the number of generators that breaks the other's rule.
     pub fn clashes_with(&self, other: &Breach) -> bool {
+        let cut_off = |one: &Breach, two: &Breach| {
+            two.number == 25 && one.length.is_some_and(|length| length <= GENERATORS_OFFSET)
+        };
         let overlaps = |(start, width, _): &Patch, (other, other_width, _): &Patch| {
             *start < other + other_width && *other < start + width
         };
         self.length.is_some() && other.length.is_some()
+            || self.number == 9 && other.number == 9
+            || cut_off(self, other)
+            || cut_off(other, self)
             || self.patches.iter().any(|one| other.patches.iter().any(|two| overlaps(one, two)))
     }
 }
 
-/// Where a refusal stands in the order of checking: header and length, sites, lines, park; then by
-/// its place, then by its row in the table.
+/// Where a refusal stands in the order of checking: header and length, sites, lines, generators,
+/// park; then by its place, then by its row in the table.
 pub fn order(number: u64, place: u64) -> (u64, u64, usize) {
     let stage = match number {
-        1..=9 => 1,
+        1..=9 | 25 => 1,
         10..=13 => 2,
         14..=18 | 23 | 24 => 3,
-        _ => 4,
+        26 | 27 => 4,
+        _ => 5,
     };
     let row = FILE_RULES.iter().position(|rule| *rule == number).expect("a rule of the table");
     (stage, place, row)
 }
 
-/// Rules 1 to 9.
+/// Rules 1 to 9, and 25.
 pub fn of_header(park: &Park) -> Vec<Breach> {
-    let length = line_offset(park.sites.len(), park.lines.len() + 1);
     let hours = MONTH_HOURS[park.month as usize - 1] as u64;
     let fields = [
         (2, 0, 1, vec![b'p' as u64, 0]),
         (2, 1, 1, vec![b'r' as u64, 0xFF]),
         (2, 2, 1, vec![b'k' as u64, b'L' as u64]),
-        (3, 3, 2, vec![0, 2, 0x0100, 0x0101, 0xFFFF]),
+        (3, 3, 2, vec![0, 3, 0x0100, 0x0101, 0x0102, 0xFFFF]),
         (4, 5, 1, vec![0, 13, 255]),
         (5, 6, 1, vec![0, 17, 255]),
         (6, 7, 1, vec![0, 65, 255]),
@@ -84,21 +98,15 @@ pub fn of_header(park: &Park) -> Vec<Breach> {
             breaches.push(Breach::new(number, 0, vec![(offset, width, value)]));
         }
     }
-    let lengths = (0..HEADER_BYTES).map(|length| (1, length)).chain([
-        (9, HEADER_BYTES),
-        (9, length - 1),
-        (9, length + 1),
-        (9, length + 0x1_0000),
-    ]);
-    for (number, length) in lengths {
-        breaches.push(Breach { length: Some(length), ..Breach::new(number, 0, vec![]) });
-    }
+    breaches.extend((0..LEAST_BYTES).map(|length| Breach::of_length(1, length)));
+    breaches.extend(wrong_lengths(park).map(|length| Breach::of_length(9, length)));
+    breaches.extend(of_counts(park));
     breaches
 }
 
 /// Rules 10 to 13 at one site.
-pub fn of_site(site: usize) -> Vec<Breach> {
-    let start = site_offset(site);
+pub fn of_site(park: &Park, site: usize) -> Vec<Breach> {
+    let start = park.version.site_offset(site);
     let field = |number, offset, width, value| {
         Breach::new(number, site, vec![(start + offset, width, value)])
     };
@@ -126,10 +134,14 @@ pub fn of_site(site: usize) -> Vec<Breach> {
 
 /// Rules 14 to 18, 23 and 24 at one line.
 pub fn of_line(park: &Park, place: usize) -> Vec<Breach> {
-    let start = line_offset(park.sites.len(), place);
+    let start = park.line_offset(place);
     let mark = park.lines[place - 1].meters as u64;
+    let marks = match park.version {
+        Version::One => vec![4, 5, 8, mark | 128],
+        Version::Two => vec![4, 5, 12, 13, 16, mark | 128],
+    };
     let fields = [
-        (15, 2, 1, vec![4, 5, 8, mark | 128]),
+        (15, 2, 1, marks),
         (16, 3, 2, vec![0, 5_001, 0xFFFF]),
         (17, 5, 4, vec![10_000_001, 0xFFFF_FFFF]),
         (17, 9, 4, vec![10_000_001]),
@@ -143,12 +155,13 @@ pub fn of_line(park: &Park, place: usize) -> Vec<Breach> {
         }
     }
     breaches.extend(of_meters(park, place));
+    breaches.extend(of_active_generation(park, place));
     breaches
 }
 
 /// Rules 14, 23 and 24 at one line.
 fn of_ends(park: &Park, place: usize) -> Vec<Breach> {
-    let start = line_offset(park.sites.len(), place);
+    let start = park.line_offset(place);
     let last = park.sites.len() as u64;
     let next = last + 1;
     let in_order = [(0, next), (next, 0), (1, 255), (last, next)];
@@ -167,7 +180,7 @@ fn of_ends(park: &Park, place: usize) -> Vec<Breach> {
 
 /// Rule 18 at one line, with the mark, WQ, WG and WN set.
 fn of_meters(park: &Park, place: usize) -> Vec<Breach> {
-    let start = line_offset(park.sites.len(), place);
+    let start = park.line_offset(place);
     let line = &park.lines[place - 1];
     let (mark, reactive) = (line.meters as u64, line.reactive as u64);
     let values = [
@@ -191,7 +204,7 @@ pub fn of_inputs(park: &Park, site: usize) -> Breach {
     let mut patches = Vec::new();
     for (index, line) in park.lines.iter().enumerate() {
         if line.to as usize == site {
-            let start = line_offset(park.sites.len(), index + 1);
+            let start = park.line_offset(index + 1);
             patches.push((start, 1, site as u64));
             patches.push((start + 1, 1, 0));
         }

@@ -1,7 +1,8 @@
 //! The independent calculator: the three calls (01, "Where each thing is checked", with rules 20
 //! and 21), what the program parkbill prints (01, "Park Alder, and its neighbours"), and making a
-//! file from a list of its numbers (02, R-1, with rule 22).
+//! file of version 1 from a list of its numbers (02, R-1, with rule 22).
 
+use crate::layout::Version;
 use crate::park::Park;
 use crate::rules::{accepted_park, listed_park, refuse_if};
 use crate::steps::work_out;
@@ -44,9 +45,11 @@ pub fn encode(numbers: &[u32], buffer_len: usize) -> Result<Vec<u8>, Refusal> {
     Ok(file)
 }
 
-/// The one list that an accepted file is made from.
+/// The one list that an accepted file of version 1 is made from; refusal 3 for one of version 2.
 pub fn decode(file: &[u8]) -> Result<Vec<u32>, Refusal> {
-    accepted_park(file).map(|park| park.to_list())
+    let park = accepted_park(file)?;
+    refuse_if(park.version != Version::One, 3, 0)?;
+    Ok(park.to_list())
 }
 
 /// The exact bytes that parkbill prints for a file.

@@ -1,6 +1,6 @@
 //! One file, asked of the calculator and of the product: the three calls of 01 with sites and
-//! list lengths on both sides of what is right, the loss balance, the bills of before R-4, what the
-//! program prints, and the file made anew from its numbers. Lists of numbers are compared in
+//! list lengths on both sides of what is right, the loss balance, the bills of before,
+//! what the program prints, and the file made anew from its numbers. Lists of numbers are compared in
 //! list_compare.rs.
 
 use std::fmt::{Arguments, Debug};
@@ -97,6 +97,7 @@ impl<'p> Tester<'p> {
                 self.compare_balance(accepted, bills);
                 self.same_bills_as_before(&accepted.former_bills, bills);
             }
+            self.same_without_generators(&accepted.park, &at_once);
             self.coverage.balance(balance(&accepted.park, &at_once));
         }
         self.compare_remade(lent, expected.err());
@@ -117,7 +118,7 @@ impl<'p> Tester<'p> {
                 let got = String::from_utf8_lossy(&bytes).into_owned();
                 self.same(format_args!("printed"), expected, got);
             }
-            Err(error) => self.notes.push(format!("the program did not run: {error}")),
+            Err(error) => self.note(format_args!("the program did not run: {error}")),
         }
         self.finish(name, Case::File(file));
     }
@@ -126,8 +127,14 @@ impl<'p> Tester<'p> {
     pub fn same<T: PartialEq + Debug>(&mut self, what: Arguments, expected: T, got: T) {
         self.checks += 1;
         if expected != got {
-            self.notes.push(format!("{what}\n  expected {expected:?}\n  got      {got:?}"));
+            self.note(format_args!("{what}\n  expected {expected:?}\n  got      {got:?}"));
         }
+    }
+
+    /// Notes a difference; its text only if it will be told.
+    fn note(&mut self, text: Arguments) {
+        let told = !matches!(self.failures, Failures::Counted);
+        self.notes.push(if told { text.to_string() } else { String::new() });
     }
 
     fn expect(&mut self, file: &[u8]) -> Result<Accepted, Refusal> {
@@ -229,8 +236,8 @@ impl<'p> Tester<'p> {
         if let Some(place) = (0..list.len()).find(|place| list[*place] != right[*place]) {
             let (expected, got) = (right[place], list[place]);
             let place = place as i64 - GUARD as i64;
-            let note = format!("bill_park, {length}, list place {place}");
-            self.notes.push(format!("{note}\n  expected {expected}\n  got      {got}"));
+            let what = format_args!("bill_park, {length}, list place {place}");
+            self.note(format_args!("{what}\n  expected {expected}\n  got      {got}"));
         }
         if answer == Err(LIST_TOO_SHORT) {
             self.coverage.reply(21);
@@ -243,7 +250,7 @@ impl<'p> Tester<'p> {
         if let Some(balance) = balance(&accepted.park, bills) {
             self.checks += 1;
             if !balance.holds() {
-                self.notes.push(format!("the loss balance does not hold: {balance:?}"));
+                self.note(format_args!("the loss balance does not hold: {balance:?}"));
             }
         }
     }

@@ -1,24 +1,30 @@
-//! How often each refusal of a file and each branch of 01's steps was reached; list_coverage.rs
-//! counts for the lists of 02, ends_coverage.rs for the ends of lines, marks_coverage.rs for their
-//! marks, and tangents_coverage.rs for high tangents. A run in which one was never reached has shown
-//! too little, and fails.
+//! How often each refusal of a file and each branch of 01's steps was reached; shape_coverage.rs
+//! counts for shapes and limits, list_coverage.rs for the lists of 02, ends_coverage.rs for the ends
+//! of lines, marks_coverage.rs for their marks, tangents_coverage.rs for high tangents, and
+//! generators_coverage.rs for generators. A run in which one was never reached has shown too little,
+//! and fails.
 
 use crate::balance::Balance;
 use crate::branches::{Branch, NAMES};
 use crate::ends_coverage::EndsCoverage;
+use crate::generators_coverage::GeneratorsCoverage;
 use crate::list_coverage::ListCoverage;
 use crate::marks_coverage::MarksCoverage;
-use crate::park::{Line, Park, MONTH_HOURS};
-use crate::steps::{excess, half, Consumption, Generation, Lines, Source, Working, MOST_TANGENT};
+use crate::park::{Line, Park};
+use crate::rules::accepted_park;
+use crate::steps::{excess, half, Consumption, Generation, Source, Working, MOST_TANGENT};
 use crate::tangents_coverage::TangentsCoverage;
+use crate::touching::Lines;
 
 /// The refusals that a file can meet, in the order of the table; 0 stands for an accepted one.
-const FILE_REPLIES: [u64; 24] =
-    [0, 1, 2, 3, 4, 5, 6, 7, 8, 9, 10, 11, 12, 13, 14, 23, 24, 15, 16, 17, 18, 19, 20, 21];
+const FILE_REPLIES: [u64; 27] = [
+    0, 1, 2, 3, 4, 5, 6, 7, 8, 25, 9, 10, 11, 12, 13, 14, 23, 24, 15, 16, 17, 18, 26, 27, 19, 20,
+    21,
+];
 
 pub struct Coverage {
     /// By refusal number.
-    refusals: [u64; 25],
+    refusals: [u64; 28],
     branches: Vec<u64>,
     /// Ends of lines in files.
     pub ends: EndsCoverage,
@@ -27,17 +33,20 @@ pub struct Coverage {
     pub marks: MarksCoverage,
     /// High tangents in generated files and lists.
     pub tangents: TangentsCoverage,
+    /// Generators in generated files.
+    generators: GeneratorsCoverage,
 }
 
 impl Coverage {
     pub fn new() -> Coverage {
         Coverage {
-            refusals: [0; 25],
+            refusals: [0; 28],
             branches: vec![0; NAMES.len()],
             ends: EndsCoverage::default(),
             lists: ListCoverage::default(),
-            marks: MarksCoverage::default(),
+            marks: MarksCoverage::new(),
             tangents: TangentsCoverage::default(),
+            generators: GeneratorsCoverage::default(),
         }
     }
 
@@ -48,6 +57,14 @@ impl Coverage {
 
     pub fn count(&mut self, branch: Branch, reached: bool) {
         self.branches[branch as usize] += reached as u64;
+    }
+
+    /// Counts a generated file.
+    pub fn generated(&mut self, file: &[u8]) {
+        let answer = accepted_park(file);
+        self.marks.file(file, &answer);
+        self.tangents.file(&answer);
+        self.generators.file(file, &answer);
     }
 
     pub fn site(&mut self, park: &Park, work: &Working) {
@@ -176,50 +193,6 @@ impl Coverage {
         }
     }
 
-    pub fn shape(&mut self, park: &Park) {
-        let (sites, lines) = (park.sites.len(), &park.lines);
-        let same_ends = |one: &Line, two: &Line| one.from == two.from && one.to == two.to;
-        let parallel =
-            (1..lines.len()).any(|i| lines[..i].iter().any(|line| same_ends(line, &lines[i])));
-        let inner_unmetered = |line: &Line| line.joins_two_sites() && !line.measures_reactive();
-        self.count(Branch::OneSiteOneLine, sites == 1 && lines.len() == 1);
-        self.count(Branch::SixteenDeep, depth(park) == 16);
-        self.count(Branch::SixtyFourLines, lines.len() == 64);
-        self.count(Branch::Parallel, parallel);
-        self.count(Branch::InnerUnmetered, lines.iter().any(inner_unmetered));
-        let back = |metered| lines.iter().any(|l| l.to == 0 && l.measures_reactive() == metered);
-        self.count(Branch::BackMetered, back(true));
-        self.count(Branch::BackEstimated, back(false));
-    }
-
-    /// Values on a limit of the table, in an accepted park.
-    pub fn limits(&mut self, park: &Park) {
-        self.count(Branch::LimitPriceLeast, park.price == 1);
-        self.count(Branch::LimitPriceMost, park.price == 2_000_000);
-        self.count(Branch::LimitHoursLeast, park.hours == 0);
-        self.count(Branch::LimitHoursMost, park.hours == MONTH_HOURS[park.month as usize - 1]);
-        for site in &park.sites {
-            self.count(Branch::LimitPowerLeast, site.power == 1);
-            self.count(Branch::LimitPowerUnpayable, site.power == 15);
-            self.count(Branch::LimitPowerPayable, site.power == 16);
-            self.count(Branch::LimitPowerMost, site.power == 1_000_000);
-            self.count(Branch::LimitCompensation, site.compensation == 20_000);
-            self.count(Branch::LimitMotors, site.motors == 20_000);
-            self.count(Branch::LimitDiscount, site.discount == 1_000);
-        }
-        for line in &park.lines {
-            let readings = [line.active, line.reactive, line.generated, line.night];
-            let most = readings.map(|reading| reading == 10_000_000);
-            self.count(Branch::LimitReadings, readings == [0; 4]);
-            self.count(Branch::LimitActive, most[0]);
-            self.count(Branch::LimitReactive, most[1]);
-            self.count(Branch::LimitGenerated, most[2]);
-            self.count(Branch::LimitNight, most[3]);
-            self.count(Branch::LimitEerpLeast, line.eerp == 1);
-            self.count(Branch::LimitEerpMost, line.eerp == 5_000);
-        }
-    }
-
     /// Prints every count, and returns the names of those that are 0.
     pub fn print(&self) -> Vec<String> {
         let refusals = FILE_REPLIES.iter().map(|number| match number {
@@ -229,7 +202,8 @@ impl Coverage {
         let branches = NAMES.iter().map(|name| name.to_string()).zip(self.branches.iter().copied());
         let mut missing = Vec::new();
         let lines = self.ends.counts("file").chain(self.lists.counts()).chain(self.marks.counts());
-        for (name, count) in refusals.chain(branches).chain(lines).chain(self.tangents.counts()) {
+        let later = self.tangents.counts().chain(self.generators.counts());
+        for (name, count) in refusals.chain(branches).chain(lines).chain(later) {
             println!("{count:>10}  {name}");
             if count == 0 {
                 missing.push(name);
@@ -237,15 +211,4 @@ impl Coverage {
         }
         missing
     }
-}
-
-/// The most sites on a way along the lines; a line between sites goes upwards.
-fn depth(park: &Park) -> usize {
-    let mut depths = vec![1; park.sites.len() + 1];
-    for site in 1..=park.sites.len() {
-        for line in park.lines.iter().filter(|line| line.to as usize == site && line.from != 0) {
-            depths[site] = depths[site].max(depths[line.from as usize] + 1);
-        }
-    }
-    *depths.iter().max().expect("there is a site")
 }

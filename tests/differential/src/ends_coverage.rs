@@ -2,15 +2,12 @@
 //! or in their order (02, R-2); of files and of lists each.
 
 use crate::branches::{Ends, ENDS_NAMES};
+use crate::layout::Version;
 use crate::park::{Line, Park};
-use crate::rules::Refusal;
+use crate::rules::{wrong_mark, Refusal};
 
 #[derive(Default)]
 pub struct EndsCoverage([u64; ENDS_NAMES.len()]);
-
-fn wrong_mark(line: &Line) -> bool {
-    ![0, 1, 2, 3, 6, 7].contains(&line.meters)
-}
 
 fn both_network(line: &Line) -> bool {
     line.from == 0 && line.to == 0
@@ -47,17 +44,17 @@ impl EndsCoverage {
         let then_out_of_order = later.iter().any(|line| out_of_order(line) && !above(line));
         match refusal.number {
             14 => {
-                self.above(line, sites);
+                self.above(line, sites, park.version);
                 self.count(Ends::AboveThenNetwork, then_network);
                 self.count(Ends::AboveThenOutOfOrder, then_out_of_order);
             }
             23 => {
-                self.count(Ends::NetworkWrongMark, wrong_mark(line));
+                self.count(Ends::NetworkWrongMark, wrong_mark(line, park.version));
                 self.count(Ends::NetworkThenAbove, then_above);
                 self.count(Ends::NetworkThenOutOfOrder, then_out_of_order);
             }
             24 => {
-                self.out_of_order(line, sites);
+                self.out_of_order(line, sites, park.version);
                 self.count(Ends::OutOfOrderThenAbove, then_above);
                 self.count(Ends::OutOfOrderThenNetwork, then_network);
             }
@@ -71,7 +68,7 @@ impl EndsCoverage {
     }
 
     /// A line refused by 14.
-    fn above(&mut self, line: &Line, sites: u32) {
+    fn above(&mut self, line: &Line, sites: u32, version: Version) {
         let (from, to) = (line.from, line.to);
         let (from_site, to_site) = ((1..=sites).contains(&from), (1..=sites).contains(&to));
         let both = from > sites && to > sites;
@@ -83,16 +80,16 @@ impl EndsCoverage {
         self.count(Ends::AboveOutOfOrder, both && from > to);
         self.count(Ends::AboveEqual, both && from == to);
         self.count(Ends::AboveByOne, from.max(to) == sites + 1);
-        self.count(Ends::AboveWrongMark, wrong_mark(line));
+        self.count(Ends::AboveWrongMark, wrong_mark(line, version));
     }
 
     /// A line refused by 24.
-    fn out_of_order(&mut self, line: &Line, sites: u32) {
+    fn out_of_order(&mut self, line: &Line, sites: u32, version: Version) {
         let (from, to) = (line.from, line.to);
         self.count(Ends::SameSite, from == to);
         self.count(Ends::SameLastSite, from == to && to == sites);
         self.count(Ends::JustOutOfOrder, from == to + 1);
         self.count(Ends::FarOutOfOrder, from > to + 1);
-        self.count(Ends::OutOfOrderWrongMark, wrong_mark(line));
+        self.count(Ends::OutOfOrderWrongMark, wrong_mark(line, version));
     }
 }

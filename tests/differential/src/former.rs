@@ -1,5 +1,6 @@
-//! The replies of before R-2 (02), when rule 14 alone refused the ends of a line. Every file and list
-//! must be replied to as then, the place included, but that 23 and 24 stood as 14.
+//! The replies of before R-2 (02), when rule 14 alone refused the ends of a line; the other rules are
+//! those of now. Every file and list must be replied to as then, the place included, but that 23 and
+//! 24 stood as 14.
 
 use crate::calculator::Refusal;
 use crate::compare::{reply_to, Tester};

@@ -1,4 +1,5 @@
-//! The bills of before R-4 (02), by 01's own steps: step 2 limits tg to 2,000, and step 10 has no limit.
+//! The bills of before R-4 (02), by 01's own steps: step 2 limits tg to 2,000, and step 10 has no limit;
+//! WP0 is that of now.
 //! Every site must be billed as then, but that a tg of 2,000 may stand for a larger one.
 
 use crate::compare::Tester;

@@ -1,6 +1,8 @@
-//! Random parks that the table of 01 accepts, of all shapes, with values on and near every limit
-//! and with small ones, so that rounding halves, reasons 1 and 2 and high tangents happen.
+//! Random parks of version 1 that the table of 01 accepts, of all shapes, with values on and near
+//! every limit and with small ones, so that rounding halves, reasons 1 and 2 and high tangents
+//! happen. Those of version 2 are in generate_generators.rs.
 
+use crate::layout::Version;
 use crate::park::{Line, Park, Site, MONTH_HOURS};
 use crate::park::{GENERATED_METER, NIGHT_METER, REACTIVE_METER};
 use crate::random::Random;
@@ -8,7 +10,7 @@ use crate::shapes::random_shape;
 
 /// How large the readings of a park are.
 #[derive(Clone, Copy)]
-enum Scale {
+pub enum Scale {
     Tiny,
     AroundThousand,
     Round,
@@ -17,7 +19,7 @@ enum Scale {
     Mixed,
 }
 
-const SCALES: [Scale; 6] =
+pub const SCALES: [Scale; 6] =
     [Scale::Tiny, Scale::AroundThousand, Scale::Round, Scale::Large, Scale::Limits, Scale::Mixed];
 
 /// Which meters the lines of a park have.
@@ -47,12 +49,14 @@ pub fn random_park(random: &mut Random) -> Park {
     let most_hours = MONTH_HOURS[month as usize - 1] as u64;
     let middle_hours = random.between(1, most_hours);
     let mut park = Park {
+        version: Version::One,
         month,
         price: random_price(random) as u32,
         hours: random.pick(&[0, 1, 3, most_hours - 1, most_hours, middle_hours, middle_hours])
             as u32,
         sites: (0..shape.sites).map(|_| random_site(random)).collect(),
         lines: random_lines(random, &shape.ends),
+        generators: Vec::new(),
     };
     if random.chance(35) {
         make_flows_sensible(random, &mut park);
@@ -116,13 +120,14 @@ fn random_lines(random: &mut Random, ends: &[(u64, u64)]) -> Vec<Line> {
             reactive: random_reactive(random, scale, active) as u32,
             generated: generated as u32,
             night: night as u32,
+            active_generated: 0,
         });
     }
     set_meters(random, &mut lines);
     lines
 }
 
-fn random_reading(random: &mut Random, scale: Scale) -> u64 {
+pub fn random_reading(random: &mut Random, scale: Scale) -> u64 {
     match scale {
         Scale::Tiny => random.between(0, 30),
         Scale::AroundThousand => random.between(0, 1_300),
@@ -149,7 +154,7 @@ fn random_reactive(random: &mut Random, scale: Scale, active: u64) -> u64 {
 }
 
 /// A tangent of about 2,000, of about 99,999, or of any size between and a little above.
-fn random_high_tangent(random: &mut Random) -> u64 {
+pub fn random_high_tangent(random: &mut Random) -> u64 {
     match random.index(3) {
         0 => random.pick(&[1_999, 2_000, 2_000, 2_001]),
         1 => random.pick(&[99_998, 99_999, 99_999, 100_000]),

@@ -1,7 +1,8 @@
 //! The list of a park's numbers (02, R-1): five of the header (month, s, n, T, t), five for each
 //! site, eight for each line, in the order of the file. Each may be any number of 32 bits.
 
-use crate::park::{Header, Line, Park, Site, HEADER_BYTES};
+use crate::layout::{Version, LEAST_BYTES};
+use crate::park::{Header, Line, Park, Site};
 
 pub const HEADER_NUMBERS: usize = 5;
 pub const SITE_NUMBERS: usize = 5;
@@ -15,7 +16,7 @@ pub fn site([power, flag, compensation, motors, discount]: [u32; SITE_NUMBERS]) 
 /// A line from its eight fields in the paper's order: from, to, mark, D, WP, WQ, WG, WN.
 pub fn line(fields: [u32; LINE_NUMBERS]) -> Line {
     let [from, to, meters, eerp, active, reactive, generated, night] = fields;
-    Line { from, to, meters, eerp, active, reactive, generated, night }
+    Line { from, to, meters, eerp, active, reactive, generated, night, active_generated: 0 }
 }
 
 fn site_fields(site: &Site) -> [u32; SITE_NUMBERS] {
@@ -41,7 +42,7 @@ impl Header {
     /// The header of a list that is long enough for one.
     pub fn of_list(numbers: &[u32]) -> Header {
         let [month, sites, lines, price, hours] = *numbers.first_chunk().expect("five numbers");
-        Header { month, sites, lines, price, hours }
+        Header { version: Version::One, month, sites, lines, price, hours, generators: 0 }
     }
 
     /// How many numbers a list with this header has.
@@ -51,7 +52,9 @@ impl Header {
 }
 
 impl Park {
+    /// The list of a park of version 1.
     pub fn to_list(&self) -> Vec<u32> {
+        assert_eq!(self.version, Version::One);
         let (sites, lines) = (self.sites.len() as u32, self.lines.len() as u32);
         let mut numbers = vec![self.month, sites, lines, self.price, self.hours];
         numbers.extend(self.sites.iter().flat_map(site_fields));
@@ -66,20 +69,22 @@ impl Park {
         let (sites, lines) =
             numbers[HEADER_NUMBERS..].split_at(SITE_NUMBERS * header.sites as usize);
         Park {
+            version: header.version,
             month: header.month,
             price: header.price,
             hours: header.hours,
             sites: sites.as_chunks().0.iter().copied().map(site).collect(),
             lines: lines.as_chunks().0.iter().copied().map(line).collect(),
+            generators: Vec::new(),
         }
     }
 }
 
-/// The list of a file, whether the table accepts it or not; none if it does not have the letters,
-/// the version and the length of a park file.
+/// The list of a file, whether the table accepts it or not; none if it does not have the letters
+/// and the length of a park file of version 1.
 pub fn list_of_file(file: &[u8]) -> Option<Vec<u32>> {
-    let sound = file.len() >= HEADER_BYTES
+    let sound = file.len() >= LEAST_BYTES
         && file.starts_with(b"PRK\x01\x00")
-        && file.len() == Header::of_file(file).file_bytes();
+        && file.len() == Header::of_file(file, Version::One).file_bytes();
     sound.then(|| Park::from_file(file).to_list())
 }

@@ -4,8 +4,9 @@
 
 use crate::breaches::{order, Breach};
 use crate::fields::{field_at, FIELDS};
+use crate::layout::{Version, SITE_BYTES};
 use crate::list::{line_start, site_start};
-use crate::park::{line_offset, Park, HEADER_BYTES, LINE_BYTES, SITE_BYTES};
+use crate::park::Park;
 use crate::parks::places;
 use crate::refusals::all_breaches;
 
@@ -66,7 +67,8 @@ fn as_list(breach: &Breach, park: &Park) -> Option<ListBreach> {
     let change = |(offset, _, value): &(usize, usize, u64)| {
         (place_of(*offset, park.sites.len()), *value as u32)
     };
-    (*number > 3 && length.is_none()).then(|| ListBreach {
+    let fields = patches.iter().all(|(offset, ..)| *offset >= 5);
+    (fields && length.is_none()).then(|| ListBreach {
         number: *number,
         place: *place,
         changes: patches.iter().map(change).collect(),
@@ -79,16 +81,17 @@ fn place_of(offset: usize, sites: usize) -> usize {
     let field = |starts: &[usize], offset: usize| {
         starts.iter().position(|start| *start == offset).expect("a field begins here")
     };
-    let lines = line_offset(sites, 1);
-    if offset < HEADER_BYTES {
+    let (header, lines) = (Version::One.header_bytes(), Version::One.line_offset(sites, 1));
+    if offset < header {
         field(&[5, 6, 7, 8, 12], offset)
     } else if offset < lines {
-        let offset = offset - HEADER_BYTES;
+        let offset = offset - header;
         site_start(offset / SITE_BYTES + 1) + field(&[0, 4, 5, 7, 9], offset % SITE_BYTES)
     } else {
         let offset = offset - lines;
         let starts = [0, 1, 2, 3, 5, 9, 13, 17];
-        line_start(sites, offset / LINE_BYTES + 1) + field(&starts, offset % LINE_BYTES)
+        let bytes = Version::One.line_bytes();
+        line_start(sites, offset / bytes + 1) + field(&starts, offset % bytes)
     }
 }
 

@@ -9,8 +9,9 @@ use crate::failures::Case;
 use crate::fields::all_fit;
 use crate::former;
 use crate::former_tangents;
+use crate::layout::Version;
 use crate::list::{list_of_file, HEADER_NUMBERS};
-use crate::park::{line_offset, Header, Park};
+use crate::park::{Header, Park};
 use crate::product::{Reply, UNWRITTEN};
 use crate::rules::listed_park;
 
@@ -32,10 +33,11 @@ fn patterned(length: usize, turned: bool) -> Vec<u8> {
 /// counts there may be.
 fn nearest_length(numbers: &[u32]) -> usize {
     if numbers.len() < HEADER_NUMBERS {
-        return line_offset(1, 2);
+        return Version::One.file_bytes(1, 1, 0);
     }
     let header = Header::of_list(numbers);
-    line_offset(header.sites.clamp(1, 16) as usize, header.lines.clamp(1, 64) as usize + 1)
+    let (sites, lines) = (header.sites.clamp(1, 16), header.lines.clamp(1, 64));
+    Version::One.file_bytes(sites as usize, lines as usize, 0)
 }
 
 impl Tester<'_> {
@@ -62,7 +64,7 @@ impl Tester<'_> {
     /// with what it has to print for the calculator's own.
     pub fn print_made(&mut self, name: &str, numbers: &[u32]) {
         let right = calculator::encode(numbers, usize::MAX).expect("the list is accepted");
-        let mut file = patterned(line_offset(16, 65), false);
+        let mut file = patterned(Version::One.file_bytes(16, 64, 0), false);
         let (_, size) = self.product.encode(numbers, &mut file);
         file.truncate(size as usize);
         self.coverage.count(Branch::MadePrinted, true);

@@ -1,5 +1,5 @@
 //! The differential test program of the park bill: a calculator written from papers 01 and 02 (R-1
-//! to R-4) alone, held against the product's four calls and its program parkbill.
+//! to R-5) alone, held against the product's four calls and its program parkbill.
 //!
 //! - `park_tests` runs the named cases, the example files, the refusals, the sweeps and the generated
 //!   files, and for lists of a park's numbers the named ones, refusals, limits and generated ones,
@@ -8,10 +8,11 @@
 //! - `park_tests file PATH ...` compares given files, such as those of ./failures;
 //! - `park_tests list PATH ...` compares given lists, such as those of ./failures.
 //!
-//! Settings from the environment: PARK_SEED, PARK_FILES and PARK_LISTS (the generated files and
-//! lists), PARK_SAMPLE (how many of the files are printed too, and a tenth as many of those made
-//! from lists), PARKBILL (the program, by default ../../target/bin/parkbill seen from this
-//! package). Exit code: 0 if all agree and every branch was reached, else 1.
+//! Settings from the environment: PARK_SEED, PARK_FILES and PARK_LISTS (the generated files of
+//! version 1, half as many of version 2, and lists), PARK_SAMPLE (how many of the files are printed
+//! too, and a tenth as many of those made from lists), PARKBILL (the program, by default
+//! ../../target/bin/parkbill seen from this package). Exit code: 0 if all agree and every branch was
+//! reached, else 1.
 
 mod balance;
 mod branches;
@@ -22,12 +23,22 @@ mod coverage;
 mod damage;
 mod ends_coverage;
 mod examples;
+mod expect;
 mod failures;
 mod fields;
 mod former;
+mod former_generators;
 mod former_tangents;
 mod generate;
+mod generate_generators;
 mod generated_run;
+mod generator_branches;
+mod generator_breaches;
+mod generator_damage;
+mod generator_parks;
+mod generator_sweeps;
+mod generators_coverage;
+mod layout;
 mod list;
 mod list_breaches;
 mod list_compare;
@@ -39,27 +50,37 @@ mod list_run;
 mod marks_coverage;
 mod mistakes;
 mod mock;
+mod mock_active;
 mod mock_encode;
 mod mock_ends;
+mod mock_generators;
+mod mock_last;
+mod mock_layout;
 mod mock_marks;
 mod mock_steps;
 mod mock_tangents;
 mod named;
 mod named_ends;
+mod named_generators;
 mod named_lists;
 mod named_marks;
+mod named_second;
+mod named_second_marks;
 mod named_tangents;
 mod park;
 mod parks;
 mod product;
 mod random;
 mod refusals;
+mod refused_coverage;
 mod rules;
 mod self_test;
+mod shape_coverage;
 mod shapes;
 mod steps;
 mod sweeps;
 mod tangents_coverage;
+mod touching;
 
 use std::env;
 use std::fs;
@@ -69,6 +90,7 @@ use std::time::Instant;
 
 use crate::compare::Tester;
 use crate::failures::Failures;
+use crate::layout::Version;
 use crate::product::Product;
 
 const DEFAULT_SEED: u64 = 87;
@@ -124,6 +146,7 @@ fn run_tests() -> bool {
     let lists = setting("PARK_LISTS", DEFAULT_LISTS);
     let sample = setting("PARK_SAMPLE", DEFAULT_SAMPLE);
     println!("seed {seed}, {files} generated files, about {sample} of them printed");
+    println!("{} generated files of version 2, about {} of them printed", files / 2, sample / 2);
     println!("{lists} generated lists, about {} of the files made printed", sample / 10);
     let product = product();
     let mut tester = Tester::new(&product, Failures::Saved(in_package("failures")));
@@ -135,7 +158,12 @@ fn run_tests() -> bool {
     timed("refusals of lists", &mut tester, list_refusals::run);
     timed("sweeps", &mut tester, sweeps::run);
     timed("limits of lists", &mut tester, list_limits::run);
-    timed("generated files", &mut tester, |t| generated_run::run(t, seed, files, sample));
+    timed("generated files", &mut tester, |t| {
+        generated_run::run(t, Version::One, seed, files, sample)
+    });
+    timed("generated files of version 2", &mut tester, |t| {
+        generated_run::run(t, Version::Two, seed, files / 2, sample / 2)
+    });
     timed("generated lists", &mut tester, |t| list_run::run(t, seed, lists, sample / 10));
     let missing = tester.coverage.print();
     for name in &missing {

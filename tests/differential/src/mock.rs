@@ -1,23 +1,22 @@
 //! A second path, apart from the calculator, that stands in for the product: it reads raw bytes,
-//! gathers all breaches of 01's table and takes the first. Its rules for the ends of lines are in
-//! mock_ends.rs, that for their marks in mock_marks.rs, its steps in mock_steps.rs and
-//! mock_tangents.rs, and its making of files in mock_encode.rs. It can be told to make one mistake.
+//! gathers all breaches of 01's table and takes the first. Where it finds the records of either
+//! version is in mock_layout.rs; its rules for the ends of lines are in mock_ends.rs, that for their
+//! marks in mock_marks.rs, those for generators in mock_generators.rs; its steps are in
+//! mock_steps.rs, mock_tangents.rs and mock_active.rs, and its making of files in mock_encode.rs. It
+//! can be told to make one mistake.
 
 use std::io;
 
 use crate::mistakes::Mistake;
+use crate::mock_last::Last;
 use crate::product::{Product, Reply, UNWRITTEN};
 use crate::steps::Bill;
 
-/// The second path, with at most one mistake.
-pub struct Mock(pub Option<Mistake>);
+/// The second path, with at most one mistake, its last refusal and its last bills.
+pub struct Mock(pub Option<Mistake>, Last<(u64, u64)>, Last<Vec<Bill>>);
 
 pub fn at(file: &[u8], offset: usize, width: usize) -> i64 {
     (0..width).map(|byte| (file[offset + byte] as i64) << (8 * byte)).sum()
-}
-
-pub fn lines(file: &[u8]) -> impl Iterator<Item = &[u8]> {
-    file[14 + 11 * file[6] as usize..].chunks_exact(21)
 }
 
 /// Hours by the calendar of a leap year; summer time takes one from March, October gets it back.
@@ -27,27 +26,44 @@ fn hours(month: i64) -> i64 {
 }
 
 impl Mock {
+    pub fn new(mistake: Option<Mistake>) -> Mock {
+        Mock(mistake, Last::default(), Last::default())
+    }
+
     pub fn makes(&self, mistake: Mistake) -> bool {
         self.0 == Some(mistake)
     }
 
     /// The refusal of a file, as number and place; 0 and 0 if there is none.
     pub fn refusal(&self, file: &[u8]) -> (u64, u64) {
+        self.1.answer(file, || self.first_refusal(file))
+    }
+
+    /// The bills of all sites of an accepted file.
+    pub fn bills(&self, file: &[u8]) -> Vec<Bill> {
+        self.2.answer(file, || self.work_out(file))
+    }
+
+    fn first_refusal(&self, file: &[u8]) -> (u64, u64) {
         let header = self.header_refusal(file);
         if header != 0 {
             return (header, 0);
         }
         let mut found = Vec::new();
-        for (index, site) in file[14..].chunks_exact(11).take(file[6] as usize).enumerate() {
-            found.extend(self.site_breaches(site).map(|number| (2, index as u64 + 1, number)));
+        for (place, site) in (1..).zip(self.sites(file)) {
+            found.extend(self.site_breaches(site).map(|number| (2, place, number)));
         }
-        for (index, line) in lines(file).enumerate() {
-            let breaches = self.line_breaches(line, file[6]);
-            found.extend(breaches.map(|number| (self.stage(number), index as u64 + 1, number)));
+        for (place, line) in (1..).zip(self.lines(file)) {
+            let breaches = self.line_breaches(line, file[6], self.is_second(file));
+            found.extend(breaches.map(|number| (self.stage(number), place, number)));
         }
-        let unfed = (1..=file[6]).filter(|site| lines(file).all(|line| line[1] != *site));
+        for (place, generator) in (1..).zip(self.generators(file)) {
+            let breaches = self.generator_breaches(file, generator);
+            found.extend(breaches.map(|number| (self.generator_stage(number), place, number)));
+        }
+        let unfed = (1..=file[6]).filter(|site| self.lines(file).all(|line| line[1] != *site));
         let least = if self.makes(Mistake::HighestUnfedSite) { unfed.max() } else { unfed.min() };
-        found.extend(least.map(|site| (5, site as u64, 19)));
+        found.extend(least.map(|site| (7, site as u64, 19)));
         match found.into_iter().min_by_key(|(stage, place, _)| (*stage, *place)) {
             None if self.makes(Mistake::RefusesEverything) => (9, 0),
             None if self.makes(Mistake::TangentRefusedAboveLimit) => self.tangent_refusal(file),
@@ -59,11 +75,14 @@ impl Mock {
             }
             Some((2, _, number)) if self.makes(Mistake::SitePlaceLost) => (number, 0),
             Some((_, _, number @ (23 | 24))) if self.makes(Mistake::EndsPlaceLost) => (number, 0),
+            Some((_, place, number @ (26 | 27))) => {
+                (number, self.generator_place(file, place as usize))
+            }
             Some((_, place, number)) => (number, place),
         }
     }
 
-    /// When a line's rule is looked at; sites are looked at in stage 2.
+    /// When a line's rule is looked at; sites are looked at in stage 2, rule 19 in stage 7.
     fn stage(&self, number: u64) -> u64 {
         match (self.0, number) {
             (Some(Mistake::LinesBeforeSites), _) => 1,
@@ -73,27 +92,29 @@ impl Mock {
     }
 
     fn header_refusal(&self, file: &[u8]) -> u64 {
-        if file.len() < 14 {
+        if file.len() < self.least_bytes(file) {
             return 1;
         }
         let (month, sites, lines) = (at(file, 5, 1), at(file, 6, 1), at(file, 7, 1));
         let more = (self.makes(Mistake::March744Hours) && month == 3) as i64;
-        let length = (14 + 11 * sites + 21 * lines) as usize;
+        let length = self.length(file);
         let longer = file.len() > length && !self.makes(Mistake::LongerFileAccepted);
-        let sound = [
-            file.starts_with(b"PRK"),
-            at(file, 3, 2) == 1,
-            (1..=12).contains(&month),
-            (1..=16).contains(&sites),
-            (1..=64).contains(&lines),
-            (1..=2_000_000).contains(&at(file, 8, 4)),
-            at(file, 12, 2) <= hours(month) + more,
-            file.len() >= length && !longer,
+        let mut sound = [
+            (2, file.starts_with(b"PRK")),
+            (3, self.is_version(self.version(file))),
+            (4, (1..=12).contains(&month)),
+            (5, (1..=16).contains(&sites)),
+            (6, (1..=64).contains(&lines)),
+            (7, (1..=2_000_000).contains(&at(file, 8, 4))),
+            (8, at(file, 12, 2) <= hours(month) + more),
+            (25, !self.too_many_generators(file)),
+            (9, file.len() >= length && !longer),
         ];
-        if self.makes(Mistake::VersionBeforeLetters) && !sound[1] {
+        if self.makes(Mistake::VersionBeforeLetters) && !sound[1].1 {
             return 3;
         }
-        sound.iter().position(|sound| !sound).map_or(0, |index| index as u64 + 2)
+        self.misplace_count(&mut sound);
+        sound.iter().find(|(_, sound)| !sound).map_or(0, |(number, _)| *number)
     }
 
     fn site_breaches(&self, site: &[u8]) -> impl Iterator<Item = u64> {
@@ -110,24 +131,25 @@ impl Mock {
         (10..).zip(breached).filter(|(_, breached)| *breached).map(|(number, _)| number)
     }
 
-    fn line_breaches(&self, line: &[u8], sites: u8) -> impl Iterator<Item = u64> {
+    fn line_breaches(&self, line: &[u8], sites: u8, second: bool) -> impl Iterator<Item = u64> {
         let mark = line[2];
-        let [active, reactive, generated, night] = [5, 9, 13, 17].map(|offset| at(line, offset, 4));
+        let [active, reactive, generated, night] = self.readings(line);
         let [above, network, out_of_order] = self.ends_breached(line[0], line[1], sites);
         let night_above = night > generated && !self.makes(Mistake::NightAboveGeneratedAccepted);
         let unmetered = [(1, reactive), (2, generated), (4, night)]
             .iter()
             .any(|(meter, reading)| mark & meter == 0 && *reading != 0);
         let unmetered = unmetered && !self.makes(Mistake::ReadingWithoutMeterAccepted);
+        let [fifth_above, fifth_unmetered] = self.active_generation_breached(line);
         let most = 10_000_000 + self.makes(Mistake::ReadingLimitOneHigher) as i64;
         let mut rows = [
             (14, above),
             (23, network),
             (24, out_of_order),
-            (15, self.mark_breached(mark)),
+            (15, self.mark_breached(mark, second)),
             (16, !(1..=5_000).contains(&at(line, 3, 2))),
-            (17, active.max(reactive).max(generated).max(night) > most),
-            (18, unmetered || night_above),
+            (17, active.max(reactive).max(generated).max(night) > most || fifth_above),
+            (18, unmetered || night_above || fifth_unmetered),
         ];
         self.misplace_ends(&mut rows);
         self.misplace_mark(&mut rows);
@@ -152,7 +174,7 @@ impl Product for Mock {
             refusal = (20, 0);
         }
         if refusal.0 == 0 {
-            let right = self.bills(file)[site as usize - 1];
+            let right = self.bills_unless(Mistake::FormerActiveOfSite, file)[site as usize - 1];
             *bill = self.former_tangent_if(Mistake::FormerTangentOfSite, right);
         } else if self.makes(Mistake::BillWrittenOnRefusal) {
             *bill = [0; 11];
@@ -175,7 +197,8 @@ impl Product for Mock {
             return (self.reply(refusal), 0);
         }
         let in_park = |bill| self.former_tangent_if(Mistake::FormerTangentInPark, bill);
-        let numbers = self.bills(file).into_iter().flat_map(in_park);
+        let bills = self.bills_unless(Mistake::FormerActiveInPark, file);
+        let numbers = bills.into_iter().flat_map(in_park);
         for (place, number) in list.iter_mut().zip(numbers) {
             *place = number;
         }
@@ -191,8 +214,12 @@ impl Product for Mock {
     }
 
     fn printed(&self, file: &[u8]) -> io::Result<Vec<u8>> {
+        let file = self.bytes_read(file);
         let mut text = match self.former_if(Mistake::FormerEndsPrinted, self.refusal(file)) {
-            (0, _) => table(self.bills(file).into_iter().map(|bill| self.printed_bill(bill))),
+            (0, _) => {
+                let bills = self.bills_unless(Mistake::FormerActivePrinted, file);
+                table(bills.into_iter().map(|bill| self.printed_bill(bill)))
+            }
             (number, place) => format!("refused,{number},{place}\n"),
         };
         if self.makes(Mistake::LastNewlineMissing) {

@@ -82,7 +82,10 @@ impl Mock {
 
     /// The refusal of a list that makes this file, for a buffer of this length.
     fn list_refusal(&self, numbers: &[u32], file: &[u8], length: usize) -> (u64, u64) {
-        let refusal = self.former_if(Mistake::FormerEndsMade, self.refusal(file));
+        let refusal = match self.makes(Mistake::MarksOfVersionTwoMade) {
+            true => Mock::new(Some(Mistake::MarksOfVersionTwoInOne)).refusal(file),
+            false => self.former_if(Mistake::FormerEndsMade, self.refusal(file)),
+        };
         let wrong_count = numbers.len() != self.right_count(numbers);
         let mut short = length < file.len();
         match self.0 {

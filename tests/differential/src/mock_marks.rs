@@ -1,11 +1,33 @@
-//! The second path's rule for the meter mark (02, R-3): it lists those that may be.
+//! The second path's rule for the meter mark (02, R-3 and R-5): it lists those that may be.
 
 use crate::mistakes::Mistake;
 use crate::mock::Mock;
 
 impl Mock {
-    /// Whether a mark breaks rule 15.
-    pub fn mark_breached(&self, mark: u8) -> bool {
+    /// Whether a mark breaks rule 15, in version 2 or in version 1.
+    pub fn mark_breached(&self, mark: u8, second: bool) -> bool {
+        match self.0 {
+            Some(Mistake::MarkEightAcceptedInVersionOne) if mark == 8 => false,
+            Some(Mistake::MarksOfVersionTwoInOne) => self.second_mark_breached(mark),
+            Some(Mistake::MarksOfVersionOneInTwo) => self.first_mark_breached(mark),
+            _ if second => self.second_mark_breached(mark),
+            _ => self.first_mark_breached(mark),
+        }
+    }
+
+    fn second_mark_breached(&self, mark: u8) -> bool {
+        match self.0 {
+            Some(Mistake::MarkTwelveAccepted) if mark == 12 => false,
+            Some(Mistake::MarkThirteenAccepted) if mark == 13 => false,
+            Some(Mistake::MarkSixteenAccepted) if mark == 16 => false,
+            Some(Mistake::MarkFourteenRefused) if mark == 14 => true,
+            Some(Mistake::MarkEightOnlyWithReactive) if mark & 9 == 8 => true,
+            _ if (8..16).contains(&mark) => self.first_mark_breached(mark - 8),
+            _ => self.first_mark_breached(mark),
+        }
+    }
+
+    fn first_mark_breached(&self, mark: u8) -> bool {
         match self.0 {
             Some(Mistake::MarkFourAccepted) if mark == 4 => false,
             Some(Mistake::MarkFiveAccepted) if mark == 5 => false,

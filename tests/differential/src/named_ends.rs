@@ -3,7 +3,7 @@
 //! calculator as well as against the product.
 
 use crate::compare::Tester;
-use crate::named::expect_reply;
+use crate::expect::expect_reply;
 use crate::named_lists::{expect_file, expect_refusal};
 use crate::park::Park;
 use crate::parks::alder;

@@ -1,11 +1,13 @@
 //! Named meter marks (02, R-3): every mark of a byte on each line of a small park, in a file and in
 //! a list, and marks of a list that a byte would not hold; each without readings, and with each of
 //! three. Which marks may be, and what they measure, is written by hand from the papers, and is
-//! held against the calculator as well as against the product.
+//! held against the calculator as well as against the product. Those of version 2 are in
+//! named_second_marks.rs.
 
 use crate::compare::Tester;
-use crate::named::expect_reply;
+use crate::expect::expect_reply;
 use crate::named_lists::{expect_file, expect_refusal};
+use crate::named_second_marks;
 use crate::park::Park;
 use crate::parks::small_park;
 
@@ -68,11 +70,12 @@ fn wide_marks() -> impl Iterator<Item = u32> {
     marks.chain([u32::MAX])
 }
 
-/// Runs the named marks in files, then in lists.
+/// Runs the named marks in files of either version, then in lists.
 pub fn run(tester: &mut Tester) {
     for (name, park, refusal) in all_named(0..=255) {
         expect_reply(tester, &name, &park.to_file(), refusal);
     }
+    named_second_marks::run(tester);
     for (name, park, refusal) in all_named((0..=600).chain(wide_marks())) {
         let (name, numbers) = (format!("list, {name}"), park.to_list());
         match refusal {

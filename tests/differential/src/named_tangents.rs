@@ -3,8 +3,8 @@
 //! the calculator as well as against the product.
 
 use crate::compare::Tester;
-use crate::named::{expect_numbers, expect_printed};
-use crate::named::{CONSUMPTION, CUT, P2, PC, REASON, SETTLED, TANGENT, TOTAL};
+use crate::expect::{expect_numbers, expect_printed};
+use crate::expect::{CONSUMPTION, CUT, P2, PC, REASON, SETTLED, TANGENT, TOTAL};
 use crate::parks::{one_line, small_park};
 
 /// WP, tg and P2 of a line with WQ 10,000,000, whose Pc is 1,000,000 at D 1 and T 1,000,000.

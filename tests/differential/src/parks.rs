@@ -1,6 +1,7 @@
 //! Park Alder and its cut neighbour (01, "Park Alder, and its neighbours"), and short ways to write
 //! other parks by hand.
 
+use crate::layout::Version;
 use crate::list::{line, site};
 use crate::park::Park;
 
@@ -32,6 +33,7 @@ pub const ALDER_FILE: [u8; 99] = [
 /// Park Alder.
 pub fn alder() -> Park {
     Park {
+        version: Version::One,
         month: 4,
         price: 500_000,
         hours: 200,
@@ -41,6 +43,7 @@ pub fn alder() -> Park {
             line([1, 2, 1, 700, 10_000, 4_000, 0, 0]),
             line([0, 2, 0, 669, 5_000, 0, 0, 0]),
         ],
+        generators: vec![],
     }
 }
 
@@ -54,7 +57,8 @@ pub fn alder_cut() -> Park {
 /// A park with these sites and lines at price T.
 pub fn small_park(price: u32, sites: &[[u32; 5]], lines: &[[u32; 8]]) -> Park {
     let sites = sites.iter().copied().map(site).collect();
-    Park { month: 4, price, hours: 3, sites, lines: lines.iter().copied().map(line).collect() }
+    let lines = lines.iter().copied().map(line).collect();
+    Park { price, hours: 3, sites, lines, ..alder() }
 }
 
 /// A park of one plain site, fed by one metered line with this D, WP and WQ.

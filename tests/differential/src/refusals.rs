@@ -1,10 +1,12 @@
-//! Every refusal of 01's table at first, middle and last places, and two at once. What a breach
-//! must be refused with is known from how it was made, and is held against the calculator as well
-//! as against the product.
+//! Every refusal of the table at first, middle and last places, and two at once, in either version.
+//! What a breach must be refused with is known from how it was made, and is held against the
+//! calculator as well as against the product.
 
 use crate::breaches::{of_header, of_inputs, of_line, of_site, Breach, FILE_RULES};
 use crate::calculator::{check, Refusal};
 use crate::compare::Tester;
+use crate::generator_breaches::of_generator;
+use crate::generator_parks::{five_with_generators, largest_with_generators};
 use crate::park::Park;
 use crate::parks::{five_sites, largest_park, places};
 use crate::product::Reply;
@@ -15,9 +17,18 @@ pub fn run(tester: &mut Tester) {
         for breach in &breaches {
             expect_breach(tester, name, &park, &[breach]);
         }
-        pairs(tester, name, &park, &breaches);
+        pairs(tester, name, &park, breaches);
         cuts(tester, name, &park);
     }
+    let five = ("five sites with generators", five_with_generators());
+    let largest = ("the largest park with generators", largest_with_generators());
+    for (name, park) in [&five, &largest] {
+        for breach in &all_breaches(park) {
+            expect_breach(tester, name, park, &[breach]);
+        }
+        cuts(tester, name, park);
+    }
+    pairs(tester, five.0, &five.1, all_breaches(&five.1));
     printed_refusals(tester);
 }
 
@@ -25,11 +36,15 @@ pub fn run(tester: &mut Tester) {
 pub fn all_breaches(park: &Park) -> Vec<Breach> {
     let mut breaches = of_header(park);
     for place in places(park.sites.len()) {
-        breaches.extend(of_site(place));
+        breaches.extend(of_site(park, place));
         breaches.push(of_inputs(park, place));
     }
     for place in places(park.lines.len()) {
         breaches.extend(of_line(park, place));
+    }
+    if !park.generators.is_empty() {
+        let places = places(park.generators.len());
+        breaches.extend(places.into_iter().flat_map(|place| of_generator(park, place)));
     }
     breaches
 }
@@ -51,8 +66,9 @@ fn expect_breach(tester: &mut Tester, name: &str, park: &Park, breaches: &[&Brea
     tester.file(&format!("{name}, {breaches:?}"), &file);
 }
 
-/// Every two breaches that leave each other standing.
-fn pairs(tester: &mut Tester, name: &str, park: &Park, breaches: &[Breach]) {
+/// Every two breaches that leave each other standing; the longest files are left out.
+fn pairs(tester: &mut Tester, name: &str, park: &Park, mut breaches: Vec<Breach>) {
+    breaches.retain(|breach| breach.length.is_none_or(|length| length < 10_000));
     for (index, one) in breaches.iter().enumerate() {
         for two in &breaches[index + 1..] {
             if !one.clashes_with(two) {
@@ -71,14 +87,16 @@ fn cuts(tester: &mut Tester, name: &str, park: &Park) {
     }
 }
 
-/// What is printed for one breach of each rule.
+/// What is printed for one breach of each rule that a version has.
 fn printed_refusals(tester: &mut Tester) {
-    let park = five_sites();
-    let breaches = all_breaches(&park);
-    for number in FILE_RULES {
-        let breach = breaches.iter().rfind(|breach| breach.number == number).expect("a breach");
-        let mut file = park.to_file();
-        breach.apply(&mut file);
-        tester.print(&format!("printed, {breach:?}"), &file);
+    for park in [five_sites(), five_with_generators()] {
+        let breaches = all_breaches(&park);
+        for number in FILE_RULES {
+            let of_number = breaches.iter().rfind(|breach| breach.number == number);
+            let Some(breach) = of_number else { continue };
+            let mut file = park.to_file();
+            breach.apply(&mut file);
+            tester.print(&format!("printed, {breach:?}"), &file);
+        }
     }
 }

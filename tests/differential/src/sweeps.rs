@@ -1,7 +1,8 @@
 //! Sweeps: every value of one thing while the rest stays, in places where a table or a byte may be
-//! wrong at a single value.
+//! wrong at a single value. Those over files of version 2 are in generator_sweeps.rs.
 
 use crate::compare::Tester;
+use crate::generator_sweeps;
 use crate::park::{Park, MONTH_HOURS};
 use crate::parks::{alder, one_line, small_park, with_line};
 
@@ -13,6 +14,7 @@ pub fn run(tester: &mut Tester) {
     high_tangents(tester);
     tenths_of_tangents(tester);
     around_the_reasons(tester);
+    generator_sweeps::run(tester);
 }
 
 /// Park Alder with each byte set to each value.

@@ -1,10 +1,12 @@
 //! How often the generated files and lists met the tangents around 2,000 and above it (02, R-4), in
-//! each step that has a limit of its own for them. The named cases and the sweeps do not count here:
+//! each step that has a limit of its own for them; in version 2 only sites with a generator (02, R-5)
+//! count. The named cases and the sweeps do not count here:
 //! the generated cases have to meet all of them by themselves.
 
 use crate::branches::{Tangents, TANGENTS_NAMES};
+use crate::layout::Version;
 use crate::park::Park;
-use crate::rules::{accepted_park, listed_park, Refusal};
+use crate::rules::{listed_park, Refusal};
 use crate::steps::{half, round, work_out, Working, MOST_TANGENT};
 
 #[derive(Default)]
@@ -13,6 +15,7 @@ struct Counts([u64; TANGENTS_NAMES.len()]);
 #[derive(Default)]
 pub struct TangentsCoverage {
     files: Counts,
+    generators: Counts,
     lists: Counts,
 }
 
@@ -21,13 +24,13 @@ impl Counts {
         self.0[tangents as usize] += met as u64;
     }
 
-    /// Counts what the calculator says, if it is a park.
-    fn park(&mut self, answer: Result<Park, Refusal>) {
-        let Ok(park) = answer else { return };
+    fn park(&mut self, park: &Park) {
         for site in 1..=park.sites.len() {
-            let working = work_out(&park, site);
-            self.tangent(&working);
-            self.limits(&working);
+            let working = work_out(park, site);
+            if park.version == Version::One || !working.lines.generators.is_empty() {
+                self.tangent(&working);
+                self.limits(&working);
+            }
         }
     }
 
@@ -74,16 +77,24 @@ impl Counts {
 }
 
 impl TangentsCoverage {
-    pub fn file(&mut self, file: &[u8]) {
-        self.files.park(accepted_park(file));
+    /// Counts what the calculator says of a file, if it is a park.
+    pub fn file(&mut self, answer: &Result<Park, Refusal>) {
+        match answer {
+            Ok(park) if park.version == Version::Two => self.generators.park(park),
+            Ok(park) => self.files.park(park),
+            Err(_) => {}
+        }
     }
 
     pub fn list(&mut self, numbers: &[u32]) {
-        self.lists.park(listed_park(numbers));
+        if let Ok(park) = listed_park(numbers) {
+            self.lists.park(&park);
+        }
     }
 
     /// Every count with its name.
     pub fn counts(&self) -> impl Iterator<Item = (String, u64)> {
-        self.files.named("file").chain(self.lists.named("list"))
+        let generators = self.generators.named("file, site with a generator");
+        self.files.named("file").chain(generators).chain(self.lists.named("list"))
     }
 }

@@ -1,4 +1,5 @@
--- What the walks over the lines add up for a site: a row of nine signed numbers, its inputs less its transits, and the meters that its lines share.
+-- What the walks over the lines add up for a site: a row of nine signed numbers, its inputs less its transits, and the meters that its lines share;
+-- and what its generators give.
 -- Assumes nothing.
 use Prim.Native.Nat.{ℕ, _+_, _*_, _≤_, _<_}
 use mathlib.Core.Path.{_≡_}
@@ -7,15 +8,17 @@ use mathlib.Core.List.{List, [], _∷_}
 use lib.Bits.{bitAnd}
 use lib.Dec.{eqb}
 use lib.IntN.{ℤ, pos, _+ℤ_, _-ℤ_, natAbs}
-use lib.ListN.{length, getD}
+use lib.ListN.{length, getD, set}
 use Rattle.park_sums.specs.Sums.{allOf, sumBy}
+use Rattle.park_sums.specs.declared.own.Given.{Given}
 use Rattle.park_sums.specs.declared.walk.SiteSums.{SiteSums}
-use Rattle.park_sums.specs.Flows.{flowIn, lossIn}
+use Rattle.park_sums.specs.Flows.{flowIn, lossIn, outputs, produced}
 use Rattle.park_charge.specs.Flow.{estimatedOut, tangent}
 use Rattle.park_charge.specs.Losses.{aboveZero}
 use Rattle.park_format.specs.Limits.{mostEerp, mostLoss, mostLosses, mostNet, mostReading, mostReadings, mostSites}
-use Rattle.park_format.specs.Park.{inputs, select, transits}
-use Rattle.park_format.specs.Rules.{measuresGenerated, measuresNight, measuresReactive}
+use Rattle.park_format.specs.Park.{generatorsAt, inputs, Park, select, transits}
+use Rattle.park_format.specs.Rules.{isEmpty, measuresGenerated, measuresNight, measuresReactive}
+use Rattle.park_format.specs.declared.generator.Generator.{Generator}
 use Rattle.park_format.specs.declared.line.Line.{Line}
 
 -- places of a row: WP of the lines that count for the tangent, the reactive flow, WG, WN, and the last three times D; of inputs alone, D and how many
@@ -127,14 +130,45 @@ pub record IsLess (tg : ℕ) (row before : List ℤ) (outs : List Line) : Type 0
 abbrev pub netAt : List ℤ → ℕ → ℕ
 netAt row i = aboveZero (at row i)
 
--- step 2, from a row after the first walk
-abbrev pub tangentFrom : List ℤ → ℕ
-tangentFrom row = tangent (netAt row active) (netAt row flow)
+-- step 2, from a row after the first walk: WP0 with what a site's generators and its lines' active generation add, and its tangent
+abbrev pub activeFrom : ℤ → List ℤ → ℕ
+activeFrom more row = aboveZero (at row active +ℤ more)
+
+abbrev pub tangentFrom : ℤ → List ℤ → ℕ
+tangentFrom more row = tangent (activeFrom more row) (netAt row flow)
 
 pub record RoomForTangent (row : List ℤ) : Type 0 where
   pub room : Room row
-  pub active : netAt row active ≤ mostReadings
   pub flow : netAt row flow ≤ mostReadings
+
+-- what is added to a site's WP0: nothing where it has no generator; else its generators' output and its transits' active generation, less its
+-- inputs'
+abbrev pub withOutput : ℕ → List Line → List Line → ℤ
+withOutput output ins outs = pos (output + produced outs) -ℤ pos (produced ins)
+
+abbrev pub moreAt : ℕ → Park → ℤ
+moreAt k p =
+    cond (isEmpty (generatorsAt k (p .generators))) (pos 0)
+    (withOutput (outputs (generatorsAt k (p .generators))) (inputs k (p .lines)) (transits k (p .lines)))
+
+-- what the generators of a site give together, and how many they are
+pub record IsGiven (given : Given) (generators : List Generator) : Type 0 where
+  pub output : given .output ≡ outputs generators
+  pub count : given .count ≡ length generators
+
+-- one generator more, if it is of the site
+pub record GivenAt (site : ℕ) (g : Generator) (before after : Given) : Type 0 where
+  pub elsewhere : (g .site ≡ site → ⊥) → after ≡ before
+  pub here : g .site ≡ site → after ≡ record { output = before .output + g .output; count = before .count + 1 }
+
+-- one line more, if it is an input of the site, or a transit
+pub record TakesInput (site : ℕ) (l : Line) (before after : ℤ) : Type 0 where
+  pub elsewhere : (l .to ≡ site → ⊥) → after ≡ before
+  pub here : l .to ≡ site → after ≡ before -ℤ pos (l .produced)
+
+pub record AddsTransit (site : ℕ) (l : Line) (before after : ℤ) : Type 0 where
+  pub elsewhere : (l .from ≡ site → ⊥) → after ≡ before
+  pub here : l .from ≡ site → after ≡ before +ℤ pos (l .produced)
 
 -- the marks of what all these lines measure of generation
 pub record Common (mark : ℕ) (lines : List Line) : Type 0 where
@@ -159,10 +193,10 @@ pub record AreNear (rows : List (List ℤ)) : Type 0 where
   pub sites : length rows ≡ places
   pub row : (k : ℕ) → k < places → IsNear (getD rows k [])
 
--- the tangents of sites 1 to s
-pub record AreTangents (tangents : List ℕ) (rows : List (List ℤ)) (s : ℕ) : Type 0 where
+-- the tangents of sites 1 to s, with the generators of each
+pub record AreTangents (tangents : List ℕ) (rows : List (List ℤ)) (p : Park) (s : ℕ) : Type 0 where
   pub sites : length tangents ≡ places
-  pub tangent : (k : ℕ) → 1 ≤ k → k ≤ s → getD tangents k 0 ≡ tangentFrom (getD rows k [])
+  pub tangent : (k : ℕ) → 1 ≤ k → k ≤ s → getD tangents k 0 ≡ tangentFrom (moreAt k p) (getD rows k [])
 
 -- the marks of the lines that have each site at one of their ends
 pub record AreCommon (marks : List ℕ) (end : Line → ℕ) (lines : List Line) : Type 0 where
@@ -180,6 +214,16 @@ pub record AreSums (rows : List (List ℤ)) (inputMeters transitMeters : List �
   pub net : AreNet rows lines lines
   pub inputs : AreCommon inputMeters toOf lines
   pub transits : AreCommon transitMeters fromOf lines
+
+-- a line added at both its ends: its row as an input, and then as a transit, and its meters
+pub record AddsLine (l : Line) (rows after : List (List ℤ)) (inputMeters transitMeters inputsAfter transitsAfter : List ℕ) : Type 0 where
+  pub input : List ℤ
+  pub transit : List ℤ
+  pub isInput : IsSum input (getD rows (l .to) []) (gains l)
+  pub isTransit : IsDifference transit (getD (set rows (l .to) input) (l .from) []) (takes l)
+  pub rowsAre : after ≡ set (set rows (l .to) input) (l .from) transit
+  pub inputsAre : inputsAfter ≡ set inputMeters (l .to) (bitAnd (getD inputMeters (l .to) 0) (l .meters))
+  pub transitsAre : transitsAfter ≡ set transitMeters (l .from) (bitAnd (getD transitMeters (l .from) 0) (l .meters))
 
 -- what the first walk adds up for one site, of the inputs among some lines and the transits among others
 pub record IsSiteSums (k : ℕ) (s : SiteSums) (into out : List Line) : Type 0 where
@@ -199,6 +243,12 @@ pub record TransitAt (site : ℕ) (l : Line) (before after : SiteSums) : Type 0 
   pub row : l .from ≡ site → IsDifference (after .row) (before .row) (takes l)
   pub transits : l .from ≡ site → after .«transit_meters» ≡ bitAnd (before .«transit_meters») (l .meters)
   pub inputs : after .«input_meters» ≡ before .«input_meters»
+
+-- at both
+pub record LineAt (site : ℕ) (l : Line) (before after : SiteSums) : Type 0 where
+  pub between : SiteSums
+  pub input : InputAt site l before between
+  pub transit : TransitAt site l between after
 
 pub record LessAt (site tangent : ℕ) (l : Line) (before after : List ℤ) : Type 0 where
   pub elsewhere : (l .from ≡ site → ⊥) → after ≡ before

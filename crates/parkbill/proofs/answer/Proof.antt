@@ -7,6 +7,7 @@ use denote.Ref.{now}
 use lib.ListN.{length, take, drop, length-append}
 use Rattle.io.specs.Counts.{Counts}
 use Rattle.io.proofs.Counting.{counts}
+use Rattle.park_format.proofs.Sizes.{latest-sizes}
 use Rattle.park_format.specs.Cut.{longest}
 use Rattle.park_format.specs.declared.rule.Refusal.{Refusal}
 use Rattle.park_bill.specs.Reply.{listAfter, parkAnswer, parkOutcome}
@@ -71,7 +72,7 @@ returns c =
     let buffer = now (s .args .buffer) in
     let bytes = s .args .bytes in
     let text = billed (take bytes buffer) (bill .bill-park .ensures .0) (told .enum-told .given .1) (sites .sites-billed .ensures) (bill .bill-park .ensures .1 .0) in
-    (every (c .bill .ensures) buffer bytes (omega (arith, all .all .given .0)) text, counted (c .bill .ensures))
+    (every (c .bill .ensures) buffer bytes (omega (arith, all .all .given .0, latest-sizes)) text, counted (c .bill .ensures))
 
 refusal-requires : tie.Need-refusal-requires
 refusal-requires c κs = search needs
@@ -85,7 +86,7 @@ returns-2 c =
     let buffer = now (s .args .buffer) in
     let bytes = s .args .bytes in
     let text = refused (take bytes buffer) (bill .bill-park .ensures .0) (told .reply .given .1) in
-    (every (c .refusal .ensures) buffer bytes (omega (arith, all .all .given .0)) text, counted (c .refusal .ensures))
+    (every (c .refusal .ensures) buffer bytes (omega (arith, all .all .given .0, latest-sizes)) text, counted (c .refusal .ensures))
 
 pub answer-spec : {M : Type 1} → statement M
 answer-spec =

@@ -1,6 +1,8 @@
 use Prim.Native.Nat.{_≤_}
 use mathlib.Core.Path.{refl}
+use denote.Ref.{now}
 use Rattle.park_format.specs.Limits.{mostSites}
+use Rattle.park_format.specs.Park.{parkOf}
 use Rattle.park_bill.proofs.Starts.{rows-near, sites-walked, sums-fresh, tangents-room}
 use Rattle.park_sums.proofs.Turns.{all-few, header-kept}
 use borrow.Author.Needs.{needs}
@@ -15,21 +17,18 @@ sums-requires c κs =
     let s : tie.Start = search in
     (s .pre .0, sums-fresh)
 
-cast-tangents : tie.Need-cast-tangents
-cast-tangents c = search needs
-
 tangents-requires : tie.Need-tangents-requires
 tangents-requires c κs =
     let w : tie.After-sums = search in
     let s : tie.Start = search in
-    (few-sites s, (tangents-room (s .args .header .sites) _ (all-few _ (s .pre .0 .0) (s .args .header) (s .pre .0 .1)) (few-sites s) (w .sums .ensures), (w .sums .ensures .net .sites, refl)))
+    (s .pre .0, (tangents-room (s .args .header) (parkOf (now (s .args .file))) (all-few _ (s .pre .0 .0) (s .args .header) (s .pre .0 .1)) (few-sites s) (w .sums .ensures), (w .sums .ensures .net .sites, refl)))
 
 after-transits-requires : tie.Need-after-transits-requires
 after-transits-requires c κs =
     let w : tie.After-sums = search in
     let g : tie.After-tangents2 = search in
     let s : tie.Start = search in
-    (s .pre .0, (rows-near (s .args .header .sites) _ (all-few _ (s .pre .0 .0) (s .args .header) (s .pre .0 .1)) (few-sites s) (w .sums .ensures), g .tangents2 .ensures .sites))
+    (s .pre .0, (rows-near (s .args .header) (parkOf (now (s .args .file))) (all-few _ (s .pre .0 .0) (s .args .header) (s .pre .0 .1)) (few-sites s) (w .sums .ensures), g .tangents2 .ensures .sites))
 
 write-bills-requires : tie.Need-write-bills-requires
 write-bills-requires c κs =
@@ -37,7 +36,7 @@ write-bills-requires c κs =
     let g : tie.After-tangents2 = search in
     let w : tie.After-sums = search in
     let s : tie.Start = search in
-    (s .pre .0, (sites-walked (s .args .header .sites) _ (all-few _ (s .pre .0 .0) (s .args .header) (s .pre .0 .1)) (few-sites s) (w .sums .ensures) (g .tangents2 .ensures) (a .after-transits .ensures), s .pre .1))
+    (s .pre .0, (sites-walked (s .args .header) (parkOf (now (s .args .file))) (all-few _ (s .pre .0 .0) (s .args .header) (s .pre .0 .1)) (few-sites s) (w .sums .ensures) (g .tangents2 .ensures) (a .after-transits .ensures), s .pre .1))
 
 same-length : tie.Need-same-length
 same-length c = search needs
@@ -50,7 +49,6 @@ bill-all-spec =
     tie.close
     (tie.spec
     sums-requires
-    cast-tangents
     tangents-requires
     after-transits-requires
     write-bills-requires

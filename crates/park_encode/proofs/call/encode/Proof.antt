@@ -7,13 +7,14 @@ use mathlib.Core.Option.{Option}
 use denote.Ref.{now}
 use lib.ListN.{drop}
 use Rattle.park_format.specs.Call.{answer, unlessRefused}
-use Rattle.park_format.specs.Limits.{mostLines, mostSites}
+use Rattle.park_format.specs.Limits.{mostGenerators, mostLines, mostSites}
 use Rattle.park_format.specs.Rules.{refusalOf, sizeOf}
 use Rattle.park_format.specs.declared.header.Header.{Header}
 use Rattle.park_encode.specs.Encode.{IsAcceptedList, madeFile, madeSize}
 use Rattle.park_encode.specs.Numbers.{listCount, listPark}
 use Rattle.park_encode.proofs.Accepted.{enough, list-count, list-kept}
 use Rattle.park_encode.proofs.Refusals.{buffer-refused, list-first, nothing-refused}
+use Rattle.park_encode.proofs.Table.{first-version}
 use Rattle.park_encode.proofs.Written.{buffer-is}
 use borrow.Author.Needs.{needs}
 use Rattle.park_encode.proofs.call.encode.Statement.{statement}
@@ -93,8 +94,9 @@ write-park-requires c κs =
     let kept = list-kept (numbers z) (accepted (told z)) .header in
     let sites = subst (λ (y : Header). y .sites ≤ mostSites) (sym h) (kept .sites .1) in
     let lines = subst (λ (y : Header). y .lines ≤ mostLines) (sym h) (kept .lines .1) in
+    let generators = subst (λ (y : Header). y .generators ≤ mostGenerators) (sym h) (kept .generators) in
     let count = list-count (numbers z) (accepted (told z)) ∙ ap (λ (y : Header). listCount (y .sites) (y .lines)) (sym h) in
-    (record { sites = sites; lines = lines; size = omega (arith, count) }, (record { sites = sites; lines = lines; size = omega (arith, z .size .ensures, x .if1 .left) }, h))
+    (record { first = first-version (numbers z) h; sites = sites; lines = lines; size = omega (arith, count) }, (record { sites = sites; lines = lines; generators = generators; size = omega (arith, z .size .ensures, x .if1 .left) }, h))
 
 same-length : tie.Need-same-length
 same-length c = search needs

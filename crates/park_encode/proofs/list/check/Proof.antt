@@ -6,6 +6,7 @@ use mathlib.Core.Option.{some}
 use denote.Ref.{now}
 use lib.Dec.{eqb}
 use lib.ListN.{length}
+use Rattle.park_format.specs.Park.{noGenerator}
 use Rattle.park_format.specs.Rules.{firstBroken, headerRules, refusalAt, refusalOf}
 use Rattle.park_format.specs.declared.header.Header.{Header}
 use Rattle.park_format.proofs.Rules.{passes-at, refuses-at}
@@ -13,7 +14,7 @@ use Rattle.park_format.proofs.Verdict.{Headed, header-refused, inputs-decide, l
 use Rattle.park_encode.specs.Encode.{hasWrongCount, listRefusal}
 use Rattle.park_encode.specs.Inner.Counted.{Counted}
 use Rattle.park_encode.specs.Numbers.{listCount, listHeader, listLine, listSite}
-use Rattle.park_encode.proofs.Table.{counted, few-refused, list-table}
+use Rattle.park_encode.proofs.Table.{counted, few-refused, list-table, no-generators}
 use borrow.Author.Needs.{needs}
 use Rattle.park_encode.proofs.list.check.Statement.{statement}
 use Rattle.park_encode.proofs.list.check.Tie as tie
@@ -36,13 +37,13 @@ module _ (b : tie.After-broken) where
   looked : refusalAt (b .broken .result) 0 ≡ firstBroken (headerRules (hasWrongCount numbers) header)
   looked = b .broken .ensures ∙ ap (λ t. firstBroken (headerRules t header)) (count-test numbers header _ (read-stage .header-of .ensures) (b .before .count .ensures))
 
-  table : Table (hasWrongCount numbers) header (listSite numbers) (listLine header numbers) (listRefusal numbers)
+  table : Table (hasWrongCount numbers) header (listSite numbers) (listLine header numbers) (λ (i : ℕ). noGenerator) (listRefusal numbers)
   table = list-table numbers header (read-stage .header-of .ensures) (search needs)
 
   refused : (b .broken .result ≡ 0 → ⊥) → some (b .broken .result, 0) ≡ listRefusal numbers
-  refused h = header-refused _ header (listSite numbers) (listLine header numbers) table (sym (refuses-at (b .broken .result) 0 h) ∙ looked)
+  refused h = header-refused _ header (listSite numbers) (listLine header numbers) (λ (i : ℕ). noGenerator) table (sym (refuses-at (b .broken .result) 0 h) ∙ looked)
 
-  headed : b .broken .result ≡ 0 → Headed (hasWrongCount numbers) header (listSite numbers) (listLine header numbers) (listRefusal numbers)
+  headed : b .broken .result ≡ 0 → Headed (hasWrongCount numbers) header (listSite numbers) (listLine header numbers) (λ (i : ℕ). noGenerator) (listRefusal numbers)
   headed h = record { table = table; sound = sym (passes-at (b .broken .result) 0 h) ∙ looked }
 
   all-there : b .broken .result ≡ 0 → Counted header (length numbers)
@@ -73,7 +74,7 @@ returns-3 : tie.Need-returns-3
 returns-3 c =
     let e : tie.Else2 = search in
     let w : tie.After-check-sites = search in
-    sites-refused _ _ _ _ (headed (e .before) (e .if2 .left)) (sym (ap refusalOf (c .before .r .given .1)) ∙ w .check-sites .ensures)
+    sites-refused _ _ _ _ _ (headed (e .before) (e .if2 .left)) (sym (ap refusalOf (c .before .r .given .1)) ∙ w .check-sites .ensures)
 
 enum-told : tie.Need-enum-told
 enum-told c = search needs
@@ -99,7 +100,7 @@ returns-4 c =
     let t : tie.After-enum-told = search in
     let sites = sym (ap refusalOf (t .enum-told .given .1)) ∙ w .check-sites .ensures in
     let l : tie.After-check-lines = search in
-    lines-refused _ _ _ _ (headed (e .before) (e .if2 .left)) sites (rw (c .before .r2 .given .1) at (l .check-lines .ensures))
+    lines-refused _ _ _ _ _ (headed (e .before) (e .if2 .left)) sites (rw (c .before .r2 .given .1) at (l .check-lines .ensures))
 
 returns-5 : tie.Need-returns-5
 returns-5 c =
@@ -112,7 +113,7 @@ returns-5 c =
     let walked = rw (c .before .before .fed .given .1) at (l .check-lines .ensures) in
     c .check .ensures .decides
     ∙ lowest-unfed _ _ _ (c .check .ensures .low) (walked .1) (c .check .ensures .lowest) (header (e .before) .sites) (all-there (e .before) (e .if2 .left) .sites)
-    ∙ inputs-decide _ _ _ _ head sites (walked .0)
+    ∙ inputs-decide _ _ _ _ _ head sites (walked .0) (no-generators (numbers (e .before)) (header (e .before)) _ (read-stage (e .before) .header-of .ensures))
 
 pub check-spec : {M : Type 1} → statement M
 check-spec =

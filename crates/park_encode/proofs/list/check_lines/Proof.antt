@@ -22,7 +22,7 @@ use Rattle.park_encode.proofs.list.check_lines.Tie as tie
 record Reached (numbers : List ℕ) (header : Header) (lines set i : ℕ) : Type 0 where
   count : lines ≡ header .lines
   within : i ≤ lines
-  sound : upTo (lineRules (header .sites)) (listLine header numbers) i ≡ none
+  sound : upTo (lineRules header) (listLine header numbers) i ≡ none
   fed : IsFed set (listOf (listLine header numbers) i)
 
 abbrev Inv-loop : tie.InvT-loop
@@ -39,7 +39,7 @@ unfolding listOf select has
 loop-holds c =
     let s : tie.Start Inv-loop μ-loop = search in
     let h = s .args .header in
-    record { count = search needs; within = search needs; sound = upTo-zero (lineRules (h .sites)) (listLine h (now (s .args .numbers))); fed = has-zero }
+    record { count = search needs; within = search needs; sound = upTo-zero (lineRules h) (listLine h (now (s .args .numbers))); fed = has-zero }
 
 line-of-requires : tie.Need-line-of-requires Inv-loop μ-loop
 line-of-requires c κs = search needs
@@ -62,15 +62,15 @@ returns c =
     let h = s .args .header in
     let reads = listLine h (now (s .args .numbers)) in
     let i = l .loop .i in
-    let here = upTo-turn (lineRules (h .sites)) reads i (l .loop .inv .sound) (r .line-of .ensures) (b .broken .ensures (i + 1)) in
-    upTo-refused (lineRules (h .sites)) reads i (h .lines) (omega arith) here (refuses-at _ (i + 1) (c .if1 .taken))
+    let here = upTo-turn (lineRules h) reads i (l .loop .inv .sound) (r .line-of .ensures) (b .broken .ensures (i + 1)) in
+    upTo-refused (lineRules h) reads i (h .lines) (omega arith) here (refuses-at _ (i + 1) (c .if1 .taken))
 
 with-requires : tie.Need-with-requires Inv-loop μ-loop
 with-requires c κs =
     let s : tie.Start Inv-loop μ-loop = search in
     let r : tie.After-line-of Inv-loop μ-loop = search in
     let b : tie.After-broken Inv-loop μ-loop = search in
-    let kept = kept-line (s .args .header .sites) 0 (r .line-of .result) (sym (b .broken .ensures 0) ∙ passes-at _ 0 (c .if1 .left)) in
+    let kept = kept-line (s .args .header) 0 (r .line-of .result) (sym (b .broken .ensures 0) ∙ passes-at _ 0 (c .if1 .left)) in
     omega arith
 
 add-i : tie.Need-add-i Inv-loop μ-loop
@@ -88,7 +88,7 @@ loop-again c =
     let h = s .args .header in
     let reads = listLine h (now (s .args .numbers)) in
     let i = l .loop .i in
-    let here = upTo-turn (lineRules (h .sites)) reads i (l .loop .inv .sound) (r .line-of .ensures) (b .broken .ensures (i + 1)) in
+    let here = upTo-turn (lineRules h) reads i (l .loop .inv .sound) (r .line-of .ensures) (b .broken .ensures (i + 1)) in
     let w : tie.After-with Inv-loop μ-loop = search in
     record {
       count = search needs;
@@ -104,7 +104,7 @@ returns-2 c =
     let h = s .args .header in
     let reads = listLine h (now (s .args .numbers)) in
     let end : h .lines ≡ l .loop .i = omega arith in
-    (sym (ap (upTo (lineRules (h .sites)) reads) end ∙ l .loop .inv .sound), subst (λ (n : ℕ). IsFed (l .loop .fed) (listOf reads n)) (sym end) (l .loop .inv .fed))
+    (sym (ap (upTo (lineRules h) reads) end ∙ l .loop .inv .sound), subst (λ (n : ℕ). IsFed (l .loop .fed) (listOf reads n)) (sym end) (l .loop .inv .fed))
 
 pub check-lines-spec : {M : Type 1} → statement M
 check-lines-spec =

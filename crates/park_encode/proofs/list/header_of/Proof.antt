@@ -1,4 +1,5 @@
 use mathlib.Core.Path.{refl}
+use Rattle.park_format.specs.Park.{listOf}
 use Rattle.park_encode.specs.Numbers.{listHeader}
 use borrow.Author.Needs.{needs}
 use Rattle.park_encode.proofs.list.header_of.Statement.{statement}
@@ -20,7 +21,7 @@ shared-slice-read-t11 : tie.Need-shared-slice-read-t11
 shared-slice-read-t11 c = search needs
 
 returns : tie.Need-returns
-unfolding listHeader
+unfolding listHeader listOf
 returns c = refl
 
 pub header-of-spec : {M : Type 1} → statement M

@@ -20,7 +20,7 @@ use Rattle.park_encode.proofs.write.write_lines.Tie as tie
 record Reached (numbers : List ℕ) (header : Header) (file₀ : List ℕ) (lines : ℕ) (file : List ℕ) (i : ℕ) : Type 0 where
   count : lines ≡ header .lines
   within : i ≤ lines
-  stored : Stored (joined lineBytes (listOf (listLine header numbers) i)) (siteStart (header .sites)) file₀ file
+  stored : Stored (joined (lineBytes 1) (listOf (listLine header numbers) i)) (siteStart 1 (header .sites)) file₀ file
 
 abbrev Inv-loop : tie.InvT-loop
 Inv-loop numbers header file₀ lines i₀ file i = Reached numbers header file₀ lines file i
@@ -34,7 +34,7 @@ cast-lines c = search needs
 loop-holds : tie.Need-loop-holds Inv-loop μ-loop
 loop-holds c =
     let s : tie.Start Inv-loop μ-loop = search in
-    record { count = search needs; within = search needs; stored = nothing-joined lineBytes lineSize line-size (listLine (s .args .header) (now (s .args .numbers))) _ _ }
+    record { count = search needs; within = search needs; stored = nothing-joined (lineBytes 1) (lineSize 1) (line-size 1) (listLine (s .args .header) (now (s .args .numbers))) _ _ }
 
 line-of-requires : tie.Need-line-of-requires Inv-loop μ-loop
 line-of-requires c κs = search needs
@@ -43,7 +43,7 @@ write-line-requires : tie.Need-write-line-requires Inv-loop μ-loop
 write-line-requires c κs =
     let s : tie.Start Inv-loop μ-loop = search in
     let l : tie.At-loop Inv-loop μ-loop = search in
-    (still-sized (l .loop .inv .stored) (s .pre .1), search needs)
+    (still-sized (l .loop .inv .stored) (s .pre .1), (s .pre .0 .first, search needs))
 
 add-i : tie.Need-add-i Inv-loop μ-loop
 add-i c = search needs
@@ -60,7 +60,7 @@ loop-again c =
     record {
       count = search needs;
       within = search needs;
-      stored = next-joined lineBytes lineSize line-size (listLine (s .args .header) (now (s .args .numbers))) (l .loop .i) (siteStart (s .args .header .sites)) (l .loop .inv .stored) (rw (← (r .line-of .ensures)) (w .write-line .ensures));
+      stored = next-joined (lineBytes 1) (lineSize 1) (line-size 1) (listLine (s .args .header) (now (s .args .numbers))) (l .loop .i) (siteStart 1 (s .args .header .sites)) (l .loop .inv .stored) (rw (← (r .line-of .ensures)) (w .write-line .ensures));
     }
 
 same-length : tie.Need-same-length Inv-loop μ-loop
@@ -71,7 +71,7 @@ returns c =
     let s : tie.Start Inv-loop μ-loop = search in
     let l : tie.At-loop Inv-loop μ-loop = search in
     let end : s .args .header .lines ≡ l .loop .i = omega arith in
-    all-joined lineBytes (listLine (s .args .header) (now (s .args .numbers))) end (l .loop .inv .stored)
+    all-joined (lineBytes 1) (listLine (s .args .header) (now (s .args .numbers))) end (l .loop .inv .stored)
 
 pub write-lines-spec : {M : Type 1} → statement M
 write-lines-spec =

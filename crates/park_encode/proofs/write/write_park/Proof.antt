@@ -1,12 +1,18 @@
+use native.Mathlib.Omega.{arith}
 use denote.Ref.{now}
+use Rattle.park_format.proofs.Sizes.{header-sizes}
 use Rattle.park_format.proofs.Stores.{still-sized}
+use Rattle.park_encode.proofs.Table.{first-version}
 use Rattle.park_encode.proofs.Written.{park-stored}
 use borrow.Author.Needs.{needs}
 use Rattle.park_encode.proofs.write.write_park.Statement.{statement}
 use Rattle.park_encode.proofs.write.write_park.Tie as tie
 
 write-requires : tie.Need-write-requires
-write-requires c κs = search needs
+write-requires c κs =
+    let s : tie.Start = search in
+    let h = s .args .header in
+    (first-version (now (s .args .numbers)) (s .pre .1 .1), omega (arith, s .pre .1 .0 .size, header-sizes (h .version)))
 
 write-sites-requires : tie.Need-write-sites-requires
 write-sites-requires c κs =

@@ -3,7 +3,7 @@ use native.Mathlib.Omega.{arith}
 use mathlib.Core.Path.{_≡_}
 use mathlib.Core.List.{List}
 use denote.Ref.{now}
-use Rattle.park_format.specs.Format.{siteSize, siteStart}
+use Rattle.park_format.specs.Format.{headerSize, siteSize}
 use Rattle.park_format.specs.Inner.Stored.{Stored}
 use Rattle.park_format.specs.Made.{joined, siteBytes}
 use Rattle.park_format.specs.Park.{listOf}
@@ -20,7 +20,7 @@ use Rattle.park_encode.proofs.write.write_sites.Tie as tie
 record Reached (numbers : List ℕ) (header : Header) (file₀ : List ℕ) (sites : ℕ) (file : List ℕ) (k : ℕ) : Type 0 where
   count : sites ≡ header .sites
   within : k ≤ sites
-  stored : Stored (joined siteBytes (listOf (listSite numbers) k)) (siteStart 0) file₀ file
+  stored : Stored (joined siteBytes (listOf (listSite numbers) k)) (headerSize (header .version)) file₀ file
 
 abbrev Inv-loop : tie.InvT-loop
 Inv-loop numbers header file₀ sites k₀ file k = Reached numbers header file₀ sites file k
@@ -60,7 +60,7 @@ loop-again c =
     record {
       count = search needs;
       within = search needs;
-      stored = next-joined siteBytes siteSize site-size (listSite (now (s .args .numbers))) (l .loop .k) (siteStart 0) (l .loop .inv .stored) (rw (← (r .site-of .ensures)) (w .write-site .ensures));
+      stored = next-joined siteBytes siteSize site-size (listSite (now (s .args .numbers))) (l .loop .k) (headerSize (s .args .header .version)) (l .loop .inv .stored) (rw (← (r .site-of .ensures)) (w .write-site .ensures));
     }
 
 same-length : tie.Need-same-length Inv-loop μ-loop

@@ -7,11 +7,11 @@ use denote.Ref.{now}
 use lib.Dec.{eqb}
 use lib.ListN.{length}
 use Rattle.park_format.specs.Inner.Sized.{Sized}
-use Rattle.park_format.specs.Park.{headerOf, lineOf, siteOf}
+use Rattle.park_format.specs.Park.{generatorOf, headerOf, lineOf, siteOf}
 use Rattle.park_format.specs.Rules.{firstBroken, hasWrongLength, headerRules, refusal, refusalAt, refusalOf, sizeOf}
 use Rattle.park_format.specs.declared.header.Header.{Header}
 use Rattle.park_format.proofs.Rules.{passes-at, refuses-at}
-use Rattle.park_format.proofs.Verdict.{file-table, Headed, header-refused, inputs-decide, lines-refused, lowest-unfed, sites-refused, sized, Table, too-short}
+use Rattle.park_format.proofs.Verdict.{file-table, generators-refused, Headed, header-refused, inputs-decide, lines-refused, lowest-unfed, sites-refused, sized, Table, too-short}
 use borrow.Author.Needs.{needs}
 use Rattle.park_format.proofs.file.check.Statement.{statement}
 use Rattle.park_format.proofs.file.check.Tie as tie
@@ -34,13 +34,13 @@ module _ (b : tie.After-broken) where
   looked : refusalAt (b .broken .result) 0 ≡ firstBroken (headerRules (hasWrongLength file) header)
   looked = b .broken .ensures ∙ ap (λ t. firstBroken (headerRules t header)) (length-test file header _ (read-stage .read .ensures) (b .before .size .ensures))
 
-  table : Table (hasWrongLength file) header (siteOf header file) (lineOf header file) (refusal file)
+  table : Table (hasWrongLength file) header (siteOf header file) (lineOf header file) (generatorOf header file) (refusal file)
   table = file-table file header (read-stage .read .ensures) (search needs)
 
   refused : (b .broken .result ≡ 0 → ⊥) → some (b .broken .result, 0) ≡ refusal file
-  refused h = header-refused _ header (siteOf header file) (lineOf header file) table (sym (refuses-at (b .broken .result) 0 h) ∙ looked)
+  refused h = header-refused _ header (siteOf header file) (lineOf header file) (generatorOf header file) table (sym (refuses-at (b .broken .result) 0 h) ∙ looked)
 
-  headed : b .broken .result ≡ 0 → Headed (hasWrongLength file) header (siteOf header file) (lineOf header file) (refusal file)
+  headed : b .broken .result ≡ 0 → Headed (hasWrongLength file) header (siteOf header file) (lineOf header file) (generatorOf header file) (refusal file)
   headed h = record { table = table; sound = sym (passes-at (b .broken .result) 0 h) ∙ looked }
 
   long-enough : b .broken .result ≡ 0 → Sized header (length file)
@@ -71,7 +71,7 @@ returns-3 : tie.Need-returns-3
 returns-3 c =
     let e : tie.Else2 = search in
     let w : tie.After-check-sites = search in
-    sites-refused _ _ _ _ (headed (e .before) (e .if2 .left)) (sym (ap refusalOf (c .before .r .given .1)) ∙ w .check-sites .ensures)
+    sites-refused _ _ _ _ _ (headed (e .before) (e .if2 .left)) (sym (ap refusalOf (c .before .r .given .1)) ∙ w .check-sites .ensures)
 
 enum-told : tie.Need-enum-told
 enum-told c = search needs
@@ -87,8 +87,13 @@ enum-known-r-2 c = search needs
 enum-known-fed : tie.Need-enum-known-fed
 enum-known-fed c = search needs
 
-check-requires : tie.Need-check-requires
-check-requires c κs = search needs
+check-generators-requires : tie.Need-check-generators-requires
+check-generators-requires c κs =
+    let e : tie.Else2 = search in
+    long-enough (e .before) (e .if2 .left)
+
+enum-known-r-3 : tie.Need-enum-known-r-3
+enum-known-r-3 c = search needs
 
 returns-4 : tie.Need-returns-4
 returns-4 c =
@@ -97,7 +102,16 @@ returns-4 c =
     let t : tie.After-enum-told = search in
     let sites = sym (ap refusalOf (t .enum-told .given .1)) ∙ w .check-sites .ensures in
     let l : tie.After-check-lines = search in
-    lines-refused _ _ _ _ (headed (e .before) (e .if2 .left)) sites (rw (c .before .r2 .given .1) at (l .check-lines .ensures))
+    let f : tie.After-fed = search in
+    let walked = rw (f .fed .given .1) at (l .check-lines .ensures) in
+    let g : tie.After-check-generators = search in
+    generators-refused _ _ _ _ _ (headed (e .before) (e .if2 .left)) sites (walked .0) (sym (ap refusalOf (c .before .r3 .given .1)) ∙ g .check-generators .ensures)
+
+enum-told-2 : tie.Need-enum-told-2
+enum-told-2 c = search needs
+
+check-requires : tie.Need-check-requires
+check-requires c κs = search needs
 
 returns-5 : tie.Need-returns-5
 returns-5 c =
@@ -106,11 +120,24 @@ returns-5 c =
     let t : tie.After-enum-told = search in
     let sites = sym (ap refusalOf (t .enum-told .given .1)) ∙ w .check-sites .ensures in
     let l : tie.After-check-lines = search in
+    lines-refused _ _ _ _ _ (headed (e .before) (e .if2 .left)) sites (rw (c .before .r2 .given .1) at (l .check-lines .ensures))
+
+returns-6 : tie.Need-returns-6
+returns-6 c =
+    let e : tie.Else2 = search in
+    let w : tie.After-check-sites = search in
+    let t : tie.After-enum-told = search in
+    let sites = sym (ap refusalOf (t .enum-told .given .1)) ∙ w .check-sites .ensures in
+    let l : tie.After-check-lines = search in
+    let f : tie.After-fed = search in
+    let walked = rw (f .fed .given .1) at (l .check-lines .ensures) in
+    let g : tie.After-check-generators = search in
+    let q : tie.After-enum-told2 = search in
+    let generators = sym (ap refusalOf (q .enum-told2 .given .1)) ∙ g .check-generators .ensures in
     let head = headed (e .before) (e .if2 .left) in
-    let walked = rw (c .before .before .fed .given .1) at (l .check-lines .ensures) in
     c .check .ensures .decides
     ∙ lowest-unfed _ _ _ (c .check .ensures .low) (walked .1) (c .check .ensures .lowest) (header (e .before) .sites) (long-enough (e .before) (e .if2 .left) .sites)
-    ∙ inputs-decide _ _ _ _ head sites (walked .0)
+    ∙ inputs-decide _ _ _ _ _ head sites (walked .0) generators
 
 pub check-spec : {M : Type 1} → statement M
 check-spec =
@@ -128,6 +155,10 @@ check-spec =
     check-lines-requires
     enum-known-r-2
     enum-known-fed
-    check-requires
+    check-generators-requires
+    enum-known-r-3
     returns-4
-    returns-5)
+    enum-told-2
+    check-requires
+    returns-5
+    returns-6)

@@ -15,7 +15,7 @@ returns : tie.Need-returns
 returns c =
     let w : tie.After-write = search in
     let p : tie.After-site-start = search in
-    rw (← (p .site-start .ensures)) (w .write .ensures)
+    rw (← (p .site-start .ensures .0)) (w .write .ensures)
 
 pub write-site-spec : {M : Type 1} → statement M
 write-site-spec = tie.close (tie.spec site-start-requires write-requires same-length returns)

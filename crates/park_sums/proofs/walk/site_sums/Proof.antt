@@ -1,7 +1,7 @@
-use Prim.Native.Nat.{ℕ, _+_, _-_, _≤_}
+use Prim.Native.Nat.{ℕ, _-_, _≤_, _<_}
 use native.Mathlib.Omega.{arith}
 use mathlib.Core.Path.{_≡_, refl}
-use mathlib.Core.List.{List, [], _∷_, _++_}
+use mathlib.Core.List.{List}
 use denote.Ref.{now}
 use Rattle.park_format.specs.Park.{lineOf, listOf, select}
 use Rattle.park_format.specs.declared.header.Header.{Header}
@@ -10,7 +10,7 @@ use Rattle.park_sums.proofs.Turns.{file-sized, header-kept, turn, Turn,
 use Rattle.park_sums.specs.Sums.{sumBy}
 use Rattle.park_sums.specs.Inner.Rows.{IsSiteSums}
 use Rattle.park_sums.specs.declared.walk.SiteSums.{SiteSums}
-use Rattle.park_sums.proofs.Nets.{net-room}
+use Rattle.park_sums.proofs.Nets.{net-near}
 use Rattle.park_sums.proofs.OneSite.{input-at, sums-none, transit-at}
 use borrow.Author.Needs.{needs}
 use Rattle.park_sums.proofs.walk.site_sums.Statement.{statement}
@@ -28,27 +28,25 @@ Inv-loop file header site lines sums₀ i₀ sums i = Walked file header site li
 abbrev μ-loop : tie.MeasureT-loop
 μ-loop file header site lines sums₀ i₀ sums i = lines - i
 
--- in a turn: the line that was read, and what the rules say of it
-abbrev Read : Type 0
-Read = tie.After-line-of Inv-loop μ-loop
+-- in a turn: the line that is added, and what the rules say of it
+module _ (t : tie.In-loop Inv-loop μ-loop) where
+  abbrev start : tie.Start Inv-loop μ-loop
+  start = search
 
-abbrev start : Read → tie.Start Inv-loop μ-loop
-start c = search
+  abbrev loop : tie.At-loop Inv-loop μ-loop
+  loop = search
 
-abbrev loop : Read → tie.At-loop Inv-loop μ-loop
-loop c = search
+  abbrev line : Line
+  line = lineOf (start .args .header) (now (start .args .file)) (loop .loop .i)
 
-abbrev line : Read → Line
-line c = c .line-of .result
+  abbrev lines-of : List Line
+  lines-of = listOf (lineOf (start .args .header) (now (start .args .file))) (loop .loop .i)
 
-abbrev lines-of : Read → List Line
-lines-of c = listOf (lineOf (start c .args .header) (now (start c .args .file))) (loop c .loop .i)
+  inside : loop .loop .i < start .args .header .lines
+  inside = omega (arith, loop .loop .inv .count, t .loop-test .taken)
 
-turned : (c : Read) → Turn (start c .args .header) (now (start c .args .file)) (loop c .loop .i) (line c)
-turned c =
-    let s = start c in
-    let t : tie.In-loop Inv-loop μ-loop = search in
-    turn (now (s .args .file)) (s .pre .0) (s .args .header) (s .pre .1) (loop c .loop .i) (line c) (omega (arith, loop c .loop .inv .count, t .loop-test .taken)) (c .line-of .ensures)
+  turned : Turn (start .args .header) (now (start .args .file)) (loop .loop .i) line
+  turned = turn (now (start .args .file)) (start .pre .0) (start .args .header) (start .pre .1) (loop .loop .i) line inside refl
 
 cast-lines : tie.Need-cast-lines Inv-loop μ-loop
 cast-lines c = search needs
@@ -57,22 +55,12 @@ loop-holds : tie.Need-loop-holds Inv-loop μ-loop
 unfolding listOf select sumBy
 loop-holds c = record { within = omega arith; count = search needs; sums = sums-none _ _ refl refl refl }
 
-line-of-requires : tie.Need-line-of-requires Inv-loop μ-loop
-line-of-requires c κs =
+with-line-of-requires : tie.Need-with-line-of-requires Inv-loop μ-loop
+with-line-of-requires c κs =
     let s : tie.Start Inv-loop μ-loop = search in
-    let l : tie.At-loop Inv-loop μ-loop = search in
-    (file-sized _ (s .pre .0) (s .args .header) (s .pre .1), omega (arith, l .loop .inv .count))
-
-input-of-requires : tie.Need-input-of-requires Inv-loop μ-loop
-input-of-requires c κs =
-    let r : Read = search in
-    (net-room _ _ (lines-of r) (lines-of r) (turned r .earlier) (turned r .earlier) (loop r .loop .inv .sums .net), turned r .small)
-
-transit-of-requires : tie.Need-transit-of-requires Inv-loop μ-loop
-transit-of-requires c κs =
-    let w : tie.After-input-of Inv-loop μ-loop = search in
-    let r : Read = search in
-    (net-room _ _ (lines-of r ++ (line r ∷ [])) (lines-of r) (turned r .next) (turned r .earlier) (input-at (start r .args .site) (lines-of r) (line r) (loop r .loop .inv .sums) (w .input-of .ensures) .net), turned r .small)
+    let t : tie.In-loop Inv-loop μ-loop = search in
+    let net = loop t .loop .inv .sums .net in
+    ((file-sized _ (s .pre .0) (s .args .header) (s .pre .1), inside t), (turned t .small, net-near (s .args .header) (s .args .site) (lines-of t) (lines-of t) (turned t .earlier) (turned t .earlier) net))
 
 add-i : tie.Need-add-i Inv-loop μ-loop
 add-i c =
@@ -85,17 +73,15 @@ loop-less c = search needs
 
 loop-again : tie.Need-loop-again Inv-loop μ-loop
 loop-again c =
-    let o : tie.After-transit-of Inv-loop μ-loop = search in
-    let w : tie.After-input-of Inv-loop μ-loop = search in
-    let r : Read = search in
+    let w : tie.After-with-line-of Inv-loop μ-loop = search in
     let t : tie.In-loop Inv-loop μ-loop = search in
-    let here = loop r .loop .inv in
+    let site = start t .args .site in
+    let here = loop t .loop .inv in
+    let both = w .with-line-of .ensures in
     record {
       within = omega (arith, t .loop-test .taken);
       count = here .count;
-      sums =
-          rw (turned r .more)
-          (transit-at (start r .args .site) (lines-of r) (line r) (input-at (start r .args .site) (lines-of r) (line r) (here .sums) (w .input-of .ensures)) (o .transit-of .ensures));
+      sums = rw (turned t .more) (transit-at site (lines-of t) (line t) (input-at site (lines-of t) (line t) (here .sums) (both .input)) (both .transit));
     }
 
 returns : tie.Need-returns Inv-loop μ-loop
@@ -113,9 +99,7 @@ site-sums-spec =
     μ-loop
     cast-lines
     loop-holds
-    line-of-requires
-    input-of-requires
-    transit-of-requires
+    with-line-of-requires
     add-i
     loop-less
     loop-again

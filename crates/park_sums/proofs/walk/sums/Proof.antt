@@ -1,17 +1,16 @@
-use Prim.Native.Nat.{ℕ, _+_, _-_, _≤_}
+use Prim.Native.Nat.{ℕ, _-_, _≤_, _<_}
 use native.Mathlib.Omega.{arith}
 use mathlib.Core.Path.{_≡_, refl}
-use mathlib.Core.List.{List, [], _∷_, _++_}
+use mathlib.Core.List.{List}
 use denote.Ref.{now}
 use lib.IntN.{ℤ}
-use lib.ListN.{getD, set}
 use Rattle.park_format.specs.Park.{lineOf, listOf}
 use Rattle.park_format.specs.declared.header.Header.{Header}
 use Rattle.park_format.specs.declared.line.Line.{Line}
 use Rattle.park_sums.proofs.Turns.{file-sized, header-kept, turn, Turn, walked-all}
-use Rattle.park_sums.specs.Inner.Rows.{AreNet, AreSums, fromOf, gains, IsSum, toOf}
-use Rattle.park_sums.proofs.Meters.{after-common}
-use Rattle.park_sums.proofs.Nets.{after-input, after-transit, net-room}
+use Rattle.park_sums.specs.Inner.Rows.{AreNear, AreSums}
+use Rattle.park_sums.proofs.Meters.{line-added}
+use Rattle.park_sums.proofs.Nets.{net-near}
 use borrow.Author.Needs.{needs}
 use Rattle.park_sums.proofs.walk.sums.Statement.{statement}
 use Rattle.park_sums.proofs.walk.sums.Tie as tie
@@ -28,31 +27,30 @@ Inv-loop file header rows₀ input-meters₀ transit-meters₀ lines i₀ rows i
 abbrev μ-loop : tie.MeasureT-loop
 μ-loop file header rows₀ input-meters₀ transit-meters₀ lines i₀ rows input-meters transit-meters i = lines - i
 
--- in a turn: the line that was read, and what the rules say of it
-abbrev Read : Type 0
-Read = tie.After-line-of Inv-loop μ-loop
+-- in a turn: the line that is added, and what the rules say of it
+module _ (t : tie.In-loop Inv-loop μ-loop) where
+  abbrev start : tie.Start Inv-loop μ-loop
+  start = search
 
-abbrev start : Read → tie.Start Inv-loop μ-loop
-start c = search
+  abbrev loop : tie.At-loop Inv-loop μ-loop
+  loop = search
 
-abbrev loop : Read → tie.At-loop Inv-loop μ-loop
-loop c = search
+  abbrev line : Line
+  line = lineOf (start .args .header) (now (start .args .file)) (loop .loop .i)
 
-abbrev line : Read → Line
-line c = c .line-of .result
+  abbrev lines-of : List Line
+  lines-of = listOf (lineOf (start .args .header) (now (start .args .file))) (loop .loop .i)
 
-abbrev lines-of : Read → List Line
-lines-of c = listOf (lineOf (start c .args .header) (now (start c .args .file))) (loop c .loop .i)
+  inside : loop .loop .i < start .args .header .lines
+  inside = omega (arith, loop .loop .inv .count, t .loop-test .taken)
 
-turned : (c : Read) → Turn (start c .args .header) (now (start c .args .file)) (loop c .loop .i) (line c)
-turned c =
-    let s = start c in
-    let t : tie.In-loop Inv-loop μ-loop = search in
-    turn (now (s .args .file)) (s .pre .0 .0) (s .args .header) (s .pre .0 .1) (loop c .loop .i) (line c) (omega (arith, loop c .loop .inv .count, t .loop-test .taken)) (c .line-of .ensures)
+  turned : Turn (start .args .header) (now (start .args .file)) (loop .loop .i) line
+  turned = turn (now (start .args .file)) (start .pre .0 .0) (start .args .header) (start .pre .0 .1) (loop .loop .i) line inside refl
 
--- the line is added where it goes to, and not yet taken where it comes from
-half : (r : Read) {v : List ℤ} → IsSum v (getD (loop r .loop .rows) (line r .to) []) (gains (line r)) → AreNet (set (loop r .loop .rows) (line r .to) v) (lines-of r ++ (line r ∷ [])) (lines-of r)
-half r s = after-input (lines-of r) (lines-of r) (line r) (turned r .to) (loop r .loop .inv .sums .net) s
+  near : AreNear (loop .loop .rows)
+  near =
+      let sums = loop .loop .inv .sums .net in
+      record { sites = sums .sites; row = λ k h. net-near (start .args .header) k lines-of lines-of (turned .earlier) (turned .earlier) (sums .row k h) }
 
 cast-lines : tie.Need-cast-lines Inv-loop μ-loop
 cast-lines c = search needs
@@ -61,76 +59,12 @@ loop-holds : tie.Need-loop-holds Inv-loop μ-loop
 unfolding listOf
 loop-holds c = record { within = omega arith; count = search needs; sums = (let s : tie.Start Inv-loop μ-loop = search in s .pre .1) }
 
-line-of-requires : tie.Need-line-of-requires Inv-loop μ-loop
-line-of-requires c κs =
+add-line-of-requires : tie.Need-add-line-of-requires Inv-loop μ-loop
+add-line-of-requires c κs =
     let s : tie.Start Inv-loop μ-loop = search in
-    let l : tie.At-loop Inv-loop μ-loop = search in
-    (file-sized _ (s .pre .0 .0) (s .args .header) (s .pre .0 .1), omega (arith, l .loop .inv .count))
-
-cast-to : tie.Need-cast-to Inv-loop μ-loop
-cast-to c = search needs
-
-mul-input : tie.Need-mul-input Inv-loop μ-loop
-mul-input c = search needs
-
-element-copy-out-input : tie.Need-element-copy-out-input Inv-loop μ-loop
-element-copy-out-input c = let r : Read = search in turned r .to
-
-with-input-requires : tie.Need-with-input-requires Inv-loop μ-loop
-with-input-requires c κs =
-    let r : Read = search in
-    (net-room _ _ (lines-of r) (lines-of r) (turned r .earlier) (turned r .earlier) (loop r .loop .inv .sums .net .row _ (turned r .to)), turned r .small)
-
-mul-transit : tie.Need-mul-transit Inv-loop μ-loop
-mul-transit c = search needs
-
-element-set-from-transit : tie.Need-element-set-from-transit Inv-loop μ-loop
-element-set-from-transit c = let r : Read = search in turned r .to
-
-mul-input-meters : tie.Need-mul-input-meters Inv-loop μ-loop
-mul-input-meters c = search needs
-
-element-copy-out-input-meters : tie.Need-element-copy-out-input-meters Inv-loop μ-loop
-element-copy-out-input-meters c = let r : Read = search in turned r .to
-
-mul-input-meters-2 : tie.Need-mul-input-meters-2 Inv-loop μ-loop
-mul-input-meters-2 c = search needs
-
-element-write-input-meters : tie.Need-element-write-input-meters Inv-loop μ-loop
-element-write-input-meters c = let r : Read = search in turned r .to
-
-cast-from : tie.Need-cast-from Inv-loop μ-loop
-cast-from c = search needs
-
-mul-transit-2 : tie.Need-mul-transit-2 Inv-loop μ-loop
-mul-transit-2 c = search needs
-
-element-copy-out-transit : tie.Need-element-copy-out-transit Inv-loop μ-loop
-element-copy-out-transit c = let r : Read = search in turned r .from
-
-with-transit-requires : tie.Need-with-transit-requires Inv-loop μ-loop
-with-transit-requires c κs =
-    let w : tie.After-with-input Inv-loop μ-loop = search in
-    let r : Read = search in
-    (net-room _ _ (lines-of r ++ (line r ∷ [])) (lines-of r) (turned r .next) (turned r .earlier) (half r (w .with-input .ensures) .row _ (turned r .from)), turned r .small)
-
-mul-t24 : tie.Need-mul-t24 Inv-loop μ-loop
-mul-t24 c = search needs
-
-element-set-from-rows : tie.Need-element-set-from-rows Inv-loop μ-loop
-element-set-from-rows c = let r : Read = search in turned r .from
-
-mul-transit-meters : tie.Need-mul-transit-meters Inv-loop μ-loop
-mul-transit-meters c = search needs
-
-element-copy-out-transit-meters : tie.Need-element-copy-out-transit-meters Inv-loop μ-loop
-element-copy-out-transit-meters c = let r : Read = search in turned r .from
-
-mul-transit-meters-2 : tie.Need-mul-transit-meters-2 Inv-loop μ-loop
-mul-transit-meters-2 c = search needs
-
-element-write-transit-meters : tie.Need-element-write-transit-meters Inv-loop μ-loop
-element-write-transit-meters c = let r : Read = search in turned r .from
+    let t : tie.In-loop Inv-loop μ-loop = search in
+    let sums = loop t .loop .inv .sums in
+    ((file-sized _ (s .pre .0 .0) (s .args .header) (s .pre .0 .1), inside t), (turned t .small, ((turned t .to, turned t .from), (near t, (sums .inputs .sites, sums .transits .sites)))))
 
 add-i : tie.Need-add-i Inv-loop μ-loop
 add-i c =
@@ -143,21 +77,13 @@ loop-less c = search needs
 
 loop-again : tie.Need-loop-again Inv-loop μ-loop
 loop-again c =
-    let o : tie.After-with-transit Inv-loop μ-loop = search in
-    let w : tie.After-with-input Inv-loop μ-loop = search in
-    let r : Read = search in
+    let a : tie.After-add-line-of Inv-loop μ-loop = search in
     let t : tie.In-loop Inv-loop μ-loop = search in
-    let here = loop r .loop .inv in
+    let here = loop t .loop .inv in
     record {
       within = omega (arith, t .loop-test .taken);
       count = here .count;
-      sums =
-          rw (turned r .more)
-          (record {
-            net = after-transit (lines-of r ++ (line r ∷ [])) (lines-of r) (line r) (turned r .from) (half r (w .with-input .ensures)) (o .with-transit .ensures);
-            inputs = after-common toOf (lines-of r) (line r) (turned r .to) (here .sums .inputs) refl;
-            transits = after-common fromOf (lines-of r) (line r) (turned r .from) (here .sums .transits) refl;
-          });
+      sums = rw (turned t .more) (line-added (lines-of t) (line t) (turned t .to) (turned t .from) (here .sums) (a .add-line-of .ensures));
     }
 
 returns : tie.Need-returns Inv-loop μ-loop
@@ -175,27 +101,7 @@ sums-spec =
     μ-loop
     cast-lines
     loop-holds
-    line-of-requires
-    cast-to
-    mul-input
-    element-copy-out-input
-    with-input-requires
-    mul-transit
-    element-set-from-transit
-    mul-input-meters
-    element-copy-out-input-meters
-    mul-input-meters-2
-    element-write-input-meters
-    cast-from
-    mul-transit-2
-    element-copy-out-transit
-    with-transit-requires
-    mul-t24
-    element-set-from-rows
-    mul-transit-meters
-    element-copy-out-transit-meters
-    mul-transit-meters-2
-    element-write-transit-meters
+    add-line-of-requires
     add-i
     loop-less
     loop-again

@@ -24,6 +24,9 @@ four-requires c κs = search needs
 two-requires-2 : tie.Need-two-requires-2
 two-requires-2 c κs = search needs
 
+generators-of-requires : tie.Need-generators-of-requires
+generators-of-requires c κs = search needs
+
 returns : tie.Need-returns
 returns c = rw header-of (cc)
 
@@ -31,11 +34,12 @@ pub read-spec : {M : Type 1} → statement M
 read-spec =
     tie.close
     (tie.spec
-    three-requires
     two-requires
+    three-requires
     one-requires
     one-requires-2
     one-requires-3
     four-requires
     two-requires-2
+    generators-of-requires
     returns)

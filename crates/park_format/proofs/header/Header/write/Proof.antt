@@ -40,13 +40,14 @@ returns c =
     let mark : tie.After-write-three = search in
     let s : tie.Start = search in
     let h = s .args .self in
-    first-stored 3 (h .mark) (mark .write-three .ensures)
-    (first-stored 2 (h .version) (version .write-two .ensures)
+    rw (s .pre .0)
+    (first-stored 3 (h .mark) (mark .write-three .ensures)
+    (first-stored 2 1 (rw (s .pre .0) at (version .write-two .ensures))
     (first-stored 1 (h .month) (month .write-one .ensures)
     (first-stored 1 (h .sites) (sites .write-one2 .ensures)
     (first-stored 1 (h .lines) (lines .write-one3 .ensures)
     (first-stored 4 (h .price) (price .write-four .ensures)
-    (last-stored 2 (h .hours) (hours .write-two2 .ensures)))))))
+    (last-stored 2 (h .hours) (hours .write-two2 .ensures))))))))
 
 pub write-spec : {M : Type 1} → statement M
 write-spec =

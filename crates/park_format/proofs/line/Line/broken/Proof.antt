@@ -35,7 +35,7 @@ start t = to-end-above t .before
 
 -- the rows after those that are passed
 abbrev from : ℕ → ℕ → Tested → List Row
-from k place t = drop k (lineRules (start t .args .sites) place (start t .args .self))
+from k place t = drop k (lineRules (start t .args .header) place (start t .args .self))
 
 abbrev tested1 : tie.Else1 → Tested
 tested1 e = e .before

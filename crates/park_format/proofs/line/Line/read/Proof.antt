@@ -48,6 +48,9 @@ add-four-4 c = search needs
 four-requires-4 : tie.Need-four-requires-4
 four-requires-4 c κs = search needs
 
+produced-at-requires : tie.Need-produced-at-requires
+produced-at-requires c κs = search needs
+
 returns : tie.Need-returns
 returns c = rw line-at (cc)
 
@@ -70,4 +73,5 @@ read-spec =
     four-requires-3
     add-four-4
     four-requires-4
+    produced-at-requires
     returns)
