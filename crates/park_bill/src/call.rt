@@ -14,13 +14,13 @@ use park_format::rule::{Refusal, Verdict};
 use park_format::{file, meter};
 use park_sums::{own, row, walk};
 
-#[derive(Drop)]
+#[derive(Clone, Copy)]
 pub enum SiteReply {
     Billed(Bill),
     Refused(Refusal),
 }
 
-#[derive(Drop)]
+#[derive(Clone, Copy)]
 pub enum ParkReply {
     // The number of sites.
     Billed(u64),

@@ -1,4 +1,5 @@
 // The bill of every site of a park file.
+#![tactic(auto)]
 pub mod bill;
 pub mod call;
 mod site;

@@ -5,7 +5,7 @@ ghost use Rattle.park_encode.specs.Encode.{buffer_after, encode_answer, encode_o
 use crate::{list, write};
 use park_format::rule::{Refusal, Verdict};
 
-#[derive(Drop)]
+#[derive(Clone, Copy)]
 pub enum EncodeReply {
     // The file's length.
     Encoded(usize),

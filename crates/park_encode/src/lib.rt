@@ -1,4 +1,5 @@
 // A park file made of a customer's numbers.
+#![tactic(auto)]
 pub mod call;
 mod list;
 mod write;

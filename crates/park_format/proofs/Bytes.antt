@@ -50,6 +50,8 @@ fields_bytes [] [] pre post f = refl
 fields_bytes (w ∷ ws) (n ∷ ns) pre post f =
     let rest = simp (append_assoc, length-append, length-bytes_of) at (fields_bytes ws ns (pre ++ bytes_of w n) post f.1) in
     rw (append_assoc, number-bytes w n pre (bytes_for ws ns ++ post) f.0, rest)
+fields_bytes [] (n ∷ ns) pre post f = elim f [ ]
+fields_bytes (w ∷ ws) [] pre post f = elim f [ ]
 
 -- written from what was read
 bytes_number : (w : ℕ) (file : List ℕ) (at : ℕ) → ((i : ℕ) → byte file i < 256) → at + w ≤ length file → bytes_of w (number_at w file at) ≡ take w (drop at file)
@@ -96,3 +98,5 @@ small_wide (suc (suc (suc (suc (suc w))))) n h f = absurd (omega arith)
 pub fits_wide : (ws ns : List ℕ) → Every (λ (w : ℕ). w ≤ 4) ws → Fits ws ns → Every (λ (n : ℕ). n < 2 ^ 32) ns
 fits_wide [] [] few f = tt
 fits_wide (w ∷ ws) (n ∷ ns) few f = (small_wide w n few.0 f.0, fits_wide ws ns few.1 f.1)
+fits_wide [] (n ∷ ns) few f = elim f [ ]
+fits_wide (w ∷ ws) [] few f = elim f [ ]

@@ -7,7 +7,7 @@ ghost use Rattle.park_format.specs.Rules.{refusal_of};
 use crate::rule::{Refusal, Verdict};
 
 // What a walk over the lines finds: a broken rule, or the sites that have an input.
-#[derive(Drop)]
+#[derive(Clone, Copy)]
 pub enum Walked {
     Refused(Refusal),
     Fed(u16),

@@ -132,7 +132,7 @@ fn check_sites(file: &[u8], header: Header) -> Verdict
 }
 
 // What a look at a line finds: the number of the first rule that it breaks, 0 if none, and the site that it goes to.
-#[derive(Drop)]
+#[derive(Clone, Copy)]
 struct Looked {
     number: u32,
     to: u32,

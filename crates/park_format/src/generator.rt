@@ -5,7 +5,7 @@ ghost use Rattle.park_format.specs.Park.{generator_at};
 
 use crate::number;
 
-#[derive(Drop)]
+#[derive(Clone, Copy)]
 pub struct Generator {
     // The site that it belongs to.
     pub site: u32,

@@ -11,7 +11,7 @@ use crate::line::Line;
 use crate::site::Site;
 use crate::{number, rule};
 
-#[derive(Drop)]
+#[derive(Clone, Copy)]
 pub struct Header {
     // The three letters of the file's mark, as a number.
     pub mark: u32,

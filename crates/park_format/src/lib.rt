@@ -1,4 +1,6 @@
 // The park file: its records, its rules, and the check of a whole file.
+#![tactic(auto)]
+
 pub mod fed;
 pub mod file;
 pub mod generator;

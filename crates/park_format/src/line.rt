@@ -9,7 +9,7 @@ ghost use Rattle.park_format.specs.Rules.{refusal_at, first_broken, line_rules, 
 use crate::header::Header;
 use crate::{meter, number, rule};
 
-#[derive(Drop)]
+#[derive(Clone, Copy)]
 pub struct Line {
     // The site that the line comes from, and the one it goes to; 0 is the network.
     pub from: u32,

@@ -2,14 +2,14 @@
 ghost use Rattle.std.specs.Prelude.{◌≡◌};
 ghost use Rattle.park_format.specs.Rules.{zero_or_above};
 
-#[derive(Drop)]
+#[derive(Clone, Copy)]
 pub struct Refusal {
     // The rule's number, and the place: a site, a line or a generator counted from 1, else 0.
     pub number: u32,
     pub place: u32,
 }
 
-#[derive(Drop)]
+#[derive(Clone, Copy)]
 pub enum Verdict {
     Accepted,
     Refused(Refusal),

@@ -9,7 +9,7 @@ ghost use Rattle.park_format.specs.Rules.{refusal_at, first_broken, has_devices,
 
 use crate::{number, rule};
 
-#[derive(Drop)]
+#[derive(Clone, Copy)]
 pub struct Site {
     // Permitted power, kW.
     pub power: u32,

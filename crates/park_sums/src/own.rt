@@ -12,7 +12,7 @@ use park_format::header::Header;
 use park_format::line::Line;
 
 // What the generators of a site give together, in kWh, and how many they are.
-#[derive(Drop)]
+#[derive(Clone, Copy)]
 struct Given {
     output: u64,
     count: u64,

@@ -134,7 +134,7 @@ pub fn after_transits(
 }
 
 // What the first walk adds up for one site.
-#[derive(Drop)]
+#[derive(Clone, Copy)]
 pub struct SiteSums {
     pub row: [i64; row::SIZE],
     pub input_meters: u32,

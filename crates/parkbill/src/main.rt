@@ -1,4 +1,5 @@
 // Reads a park file from standard input and prints the bill of each site, or the refusal.
+#![tactic(auto)]
 ghost use Rattle.std.specs.Prelude.{◌≡◌, ◌<◌, length};
 ghost use Rattle.io.specs.Counts.{IsPrefixLen};
 ghost use Rattle.parkbill.specs.Answers.{AnswersEvery, sites_billed};
@@ -11,7 +12,7 @@ use park_format::file;
 // One byte more than the longest accepted file has, so that a longer input has the answer of those that are read.
 const ROOM: usize = file::LONGEST + 1;
 
-#[derive(Drop)]
+#[derive(Clone, Copy)]
 struct Input {
     // The bytes read, which stand at the start of the buffer.
     size: usize,
