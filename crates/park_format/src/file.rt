@@ -53,6 +53,7 @@ fn generator_start(header: Header, i: usize) -> usize
 }
 
 // Site i of a file that has room for what its header says, counted from 0.
+#[tactic(auto, unfolding(crate::specs::Park::site_of))]
 pub fn site_of(file: &[u8], header: Header, i: usize) -> Site
     requires sized { Sized header (length file.now) }
     requires there { i < header.sites }
@@ -84,6 +85,7 @@ pub fn line_of(file: &[u8], header: Header, i: usize) -> Line
 }
 
 // Generator i of such a file, counted from 0.
+#[tactic(auto, unfolding(crate::specs::Park::generator_of))]
 pub fn generator_of(file: &[u8], header: Header, i: usize) -> Generator
     requires sized { Sized header (length file.now) }
     requires there { i < header.generators }
@@ -183,6 +185,7 @@ fn check_lines(file: &[u8], header: Header) -> Walked
 }
 
 // The number of the first rule that a generator of such a file breaks; 0 if it breaks none.
+#[tactic(auto, unfolding(crate::specs::Rules::generator_rules, crate::specs::Rules::first_broken))]
 fn broken_generator(file: &[u8], header: Header, generator: Generator) -> u32
     requires { Sized header (length file.now) }
     ensures { (place : ℕ) → refusal_at result place ≡ first_broken (generator_rules header (list_of (site_of header file.now) header.sites) place generator) }

@@ -24,6 +24,7 @@ impl Generator {
     pub const MOST_OUTPUT: u32 = 10_000_000;
 
     // The record that starts at a position, all of it within the file.
+    #[tactic(auto, using(crate::proofs::Records::generator_at_lem))]
     pub fn read(file: &[u8], at: usize) -> Generator
         requires { at + generator_size ≤ length file.now }
         ensures { result ≡ generator_at file.now at }

@@ -32,6 +32,7 @@ pub struct Header {
 pub const MONTH_HOURS: [u16; 12] = [744, 696, 743, 720, 744, 720, 744, 744, 720, 745, 720, 744];
 
 // The most hours that a month may state; 0 for a number that is no month.
+#[tactic(auto, unfolding(crate::specs::Rules::most_hours))]
 fn most_hours(month: u32) -> u32
     ensures { result ≡ most_hours month }
 {
@@ -81,6 +82,7 @@ impl Header {
     pub const MOST_GENERATORS: u32 = 32;
 
     // The bytes of a header.
+    #[tactic(auto, unfolding(crate::specs::Format::header_size))]
     pub fn len(version: u32) -> usize
         ensures size { result ≡ header_size version }
         ensures most { result ≤ 15 }
@@ -92,6 +94,7 @@ impl Header {
     }
 
     // How many generators a file states: 0 in version 1, and where the file ends before it says.
+    #[tactic(auto, unfolding(crate::specs::Format::number_at))]
     fn generators_of(file: &[u8], version: u32) -> u32
         ensures { result ≡ cond (eqb version 1) 0 (number_at 1 file.now 14) }
     {
@@ -105,6 +108,7 @@ impl Header {
     }
 
     // The header of a file that is long enough for one of version 1.
+    #[tactic(auto, using(crate::proofs::Records::header_of_lem))]
     pub fn read(file: &[u8]) -> Header
         requires { shortest_header ≤ length file.now }
         ensures { result ≡ header_of file.now }
@@ -148,6 +152,7 @@ impl Header {
     }
 
     // The number of the first broken rule of header and length, 2 to 8, 25 and 9; 0 if none is broken.
+    #[tactic(auto, unfolding(crate::specs::Rules::header_rules, crate::specs::Rules::first_broken))]
     pub fn broken(self, wrong_length: bool) -> u32
         ensures { refusal_at result 0 ≡ first_broken (header_rules wrong_length self) }
     {

@@ -56,6 +56,7 @@ impl Line {
     pub const MOST_READING: u32 = 10_000_000;
 
     // The bytes of as many lines.
+    #[tactic(auto, unfolding(crate::specs::Format::line_size))]
     pub fn bytes(version: u32, count: usize) -> usize
         requires { count < 2 ^ 32 }
         ensures size { result ≡ line_size version * count }
@@ -68,6 +69,7 @@ impl Line {
     }
 
     // The active generation in the record that starts at a position; 0 in version 1.
+    #[tactic(auto, unfolding(crate::specs::Format::line_size))]
     fn produced_at(file: &[u8], version: u32, at: usize) -> u32
         requires { at + line_size version ≤ length file.now }
         ensures { result ≡ cond (eqb version 1) 0 (number_at 4 file.now (at + 21)) }
@@ -79,6 +81,7 @@ impl Line {
     }
 
     // The record that starts at a position, all of it within the file.
+    #[tactic(auto, using(crate::proofs::Records::line_at_lem))]
     pub fn read(file: &[u8], version: u32, at: usize) -> Line
         requires within { at + line_size version ≤ length file.now }
         requires first { at + shortest_line ≤ length file.now }
@@ -221,6 +224,7 @@ impl Line {
     }
 
     // The number of the first rule that the line breaks in a park with that header; 0 if it breaks none.
+    #[tactic(auto, unfolding(crate::specs::Rules::line_rules, crate::specs::Rules::first_broken))]
     pub fn broken(self, header: Header) -> u32
         ensures { (place : ℕ) → refusal_at result place ≡ first_broken (line_rules header place self) }
     {

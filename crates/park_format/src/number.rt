@@ -13,6 +13,7 @@ fn wide(b: u8) -> u32
 }
 
 // The byte at a position.
+#[tactic(auto, unfolding(crate::specs::Format::number_at))]
 pub fn one(file: &[u8], at: usize) -> u32
     requires { at + 1 ≤ length file.now }
     ensures value { result ≡ number_at 1 file.now at }
@@ -22,6 +23,7 @@ pub fn one(file: &[u8], at: usize) -> u32
 }
 
 // The two bytes at a position.
+#[tactic(auto, unfolding(crate::specs::Format::number_at))]
 pub fn two(file: &[u8], at: usize) -> u32
     requires { at + 2 ≤ length file.now }
     ensures value { result ≡ number_at 2 file.now at }
@@ -31,6 +33,7 @@ pub fn two(file: &[u8], at: usize) -> u32
 }
 
 // The three bytes at a position.
+#[tactic(auto, unfolding(crate::specs::Format::number_at))]
 pub fn three(file: &[u8], at: usize) -> u32
     requires { at + 3 ≤ length file.now }
     ensures { result ≡ number_at 3 file.now at }
@@ -39,6 +42,7 @@ pub fn three(file: &[u8], at: usize) -> u32
 }
 
 // The four bytes at a position.
+#[tactic(auto, unfolding(crate::specs::Format::number_at))]
 pub fn four(file: &[u8], at: usize) -> u32
     requires { at + 4 ≤ length file.now }
     ensures { result ≡ number_at 4 file.now at }
@@ -54,6 +58,7 @@ fn low(n: u32) -> u8
 }
 
 // Writes the lowest byte of a number at a position.
+#[tactic(auto, unfolding(crate::specs::Made::bytes_of))]
 pub fn write_one(file: &mut [u8], at: usize, n: u32)
     requires { at + 1 ≤ length file.old }
     ensures { Stored (bytes_of 1 n) at file.old file.new }

@@ -46,6 +46,7 @@ impl Site {
     pub const MOST_DISCOUNT: u32 = 1_000;
 
     // The record that starts at a position, all of it within the file.
+    #[tactic(auto, using(crate::proofs::Records::site_at_lem))]
     pub fn read(file: &[u8], at: usize) -> Site
         requires { at + site_size ≤ length file.now }
         ensures { result ≡ site_at file.now at }
@@ -98,6 +99,7 @@ impl Site {
     }
 
     // The number of the first rule that the site breaks; 0 if it breaks none.
+    #[tactic(auto, unfolding(crate::specs::Rules::site_rules, crate::specs::Rules::first_broken))]
     pub fn broken(self) -> u32
         ensures { (place : ℕ) → refusal_at result place ≡ first_broken (site_rules place self) }
     {
