@@ -7,7 +7,7 @@ use native.Mathlib.Omega.{arith}
 use mathlib.Core.Path.{◌≡◌, sym, ap, ap₂, ◌∙◌}
 use mathlib.Core.List.{List, [], ◌∷◌, ◌++◌}
 use lib.ListN.{length, take, drop, get_or, set, length-append}
-use lib.Seq.{sets, sets-eq, length-sets, take-suc}
+use lib.Seq.{sets, sets-eq, take-suc}
 use Rattle.park_text.specs.Buffer.{Starts}
 use Rattle.park_text.specs.Inner.Put.{Put}
 
@@ -23,9 +23,6 @@ module _ {a b : List ℕ} {at next last : ℕ} {before mid after : List ℕ} whe
         place = omega (arith, first.place, second.place, length-append a b);
         bytes = second.bytes ∙ ap₂ (λ (l : List ℕ) (i : ℕ). sets l i b) first.bytes first.place ∙ sets-append before at a b;
       }
-
-pub put_length : {a : List ℕ} {at next : ℕ} {before after : List ℕ} → Put a at before next after → length after ≡ length before
-put_length {a} {at} {next} {before} p = ap length p.bytes ∙ length-sets before at a
 
 pub starts : {text before after : List ℕ} {size : ℕ} → Put text 0 before size after → length text ≤ length before → Starts text before size after
 starts {text} {before} p room =

@@ -1,5 +1,6 @@
 // What parkbill prints, written into a lent buffer. refusal and bill answer the size of the text, the others the place after it.
 #![tactic(auto)]
+
 mod put;
 
 ghost use Rattle.std.specs.Prelude.{◌≡◌, ◌+◌, ◌*◌, ◌≤◌, ◌<◌, min, length};

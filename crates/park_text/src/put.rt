@@ -25,6 +25,7 @@ pub fn bytes(text: &[u8], at: usize, out: &mut [u8]) -> usize
 }
 
 // A number in decimal, with no leading zeros.
+#[tactic(auto, using(crate::proofs::Digits::decimal_small))]
 pub fn number(n: u64, at: usize, out: &mut [u8]) -> usize
     requires { at + length (decimal n) ≤ length out.old }
     ensures { Put (decimal n) at out.old result out.new }
