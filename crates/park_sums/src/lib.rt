@@ -1,5 +1,6 @@
 // What a site's lines add up to: rows of sums, and the walks over the lines of an accepted file that make them.
 #![tactic(auto)]
+
 pub mod own;
 pub mod row;
 pub mod walk;
