@@ -22,7 +22,7 @@ use Rattle.park_format.proofs.First.{first_lacks}
 use Rattle.park_format.proofs.Sizes.{header_sizes}
 use Rattle.park_encode.specs.Encode.{buffer_after, has_too_few, has_wrong_count, IsAcceptedList, list_refusal, list_rules, made_file, made_size}
 use Rattle.park_encode.specs.Laws.{EncodedInto, FilesOfOneList, ListsReadBack, MadeOf, RefusedAlike}
-use Rattle.park_encode.specs.Numbers.{header_fields, list_count, list_header, list_park, numbers_of, version}
+use Rattle.park_encode.specs.Numbers.{header_fields, list_count, list_header, list_park, numbers_of}
 use Rattle.park_encode.proofs.Accepted.{list_count_lem, list_fits}
 use Rattle.park_encode.proofs.Numbers.{list_again, numbers-count, numbers_wide, park_read}
 use Rattle.park_encode.proofs.Refusals.{nothing_refused}

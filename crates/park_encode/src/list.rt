@@ -26,6 +26,7 @@ const LINE: usize = 8;
 const VERSION: u32 = 1;
 
 // The header of a list that is long enough for one.
+#[tactic(auto, unfolding(crate::specs::Numbers::list_header, park_format::specs::Park::list_of))]
 pub fn header_of(numbers: &[u32]) -> Header
     requires { header_fields ≤ length numbers.now }
     ensures { result ≡ list_header numbers.now }
@@ -66,6 +67,7 @@ fn line_start(header: Header, i: usize) -> usize
 }
 
 // Site i of a list that has the numbers its header asks for, counted from 0.
+#[tactic(auto, using(crate::proofs::Records::site_at_lem))]
 pub fn site_of(numbers: &[u32], header: Header, i: usize) -> Site
     requires counted { Counted header (length numbers.now) }
     requires there { i < header.sites }
@@ -82,6 +84,7 @@ pub fn site_of(numbers: &[u32], header: Header, i: usize) -> Site
 }
 
 // Line i of such a list, counted from 0.
+#[tactic(auto, using(crate::proofs::Records::line_at_lem))]
 pub fn line_of(numbers: &[u32], header: Header, i: usize) -> Line
     requires counted { Counted header (length numbers.now) }
     requires there { i < header.lines }
