@@ -1,13 +1,15 @@
 // Reads a park file from standard input and prints the bill of each site, or the refusal.
 #![tactic(auto)]
-ghost use Rattle.std.specs.Prelude.{◌≡◌, ◌<◌, length};
-ghost use Rattle.io.specs.Counts.{IsPrefixLen};
-ghost use Rattle.parkbill.specs.Answers.{AnswersEvery, sites_billed};
-ghost use Rattle.parkbill.specs.Read.{ReadInput, ReadMore};
 
-use libc::{STDIN_FILENO, STDOUT_FILENO};
+ghost use Rattle.std.specs.Prelude.{◌≡◌, ◌<◌, length, take, drop, Ok};
+ghost use Rattle.std.specs.Io.KnownBytes.{Consumes, IsAtEnd, ReadConsumes};
+ghost use Rattle.parkbill.specs.Answers.{AnswersEvery, sites_billed};
+ghost use Rattle.parkbill.specs.Read.{IsPrefixLen, ReadInput, ReadMore};
+
 use park_bill::call::ParkReply;
 use park_format::file;
+use std::io;
+use std::io::Read;
 
 // One byte more than the longest accepted file has, so that a longer input has the answer of those that are read.
 const ROOM: usize = file::LONGEST + 1;
@@ -16,32 +18,35 @@ const ROOM: usize = file::LONGEST + 1;
 struct Input {
     // The bytes read, which stand at the start of the buffer.
     size: usize,
-    // What the last read answered: 0 at the end of the input, -1 if it failed.
-    reply: isize,
+    // What the last read answered: no bytes at the end of the input, an error if it failed.
+    reply: io::Result<usize>,
 }
 
 // One read more, to the place after the bytes that were read before, which it keeps.
-fn read_more(size: usize, buf: &mut [u8]) -> Input
+fn read_more<R: Read>(reader: &mut R, size: usize, buf: &mut [u8]) -> Input
     requires { size < length buf.old }
-    ensures { ReadMore size buf.old result buf.new }
+    ensures read { ReadMore size buf.old result buf.new }
+    ensures bytes { ReadConsumes (R.remaining reader.old) (R.remaining reader.new) result.reply (drop size buf.new) }
 {
     let most = buf.len();
-    let reply = libc::read(STDIN_FILENO, &mut buf[size..most]);
-    let more = io::count(reply, &buf[size..most]);
+    let reply = reader.read(&mut buf[size..most]);
+    let more = reply.unwrap_or(0);
     Input {
         size: size + more,
         reply,
     }
 }
 
-// Reads standard input until it ends, buf is full or a read fails.
-fn read_input(buf: &mut [u8; ROOM]) -> Input
-    ensures { ReadInput result buf.new }
+// Reads until the input ends, buf is full or a read fails.
+fn read_input<R: Read>(reader: &mut R, buf: &mut [u8; ROOM]) -> Input
+    ensures read { ReadInput result buf.new }
+    ensures bytes { Consumes (R.remaining reader.old) (R.remaining reader.new) (take result.size buf.new) }
+    ensures end { result.reply ≡ Ok 0 → IsAtEnd (R.remaining reader.new) }
 {
     let most = buf.len();
     let mut size = 0;
     loop {
-        let input = read_more(size, buf);
+        let input = read_more(reader, size, buf);
         let next = input.size;
         if next == size {
             return input;
@@ -78,16 +83,16 @@ fn answer(buffer: &[u8; ROOM], bytes: usize, text: &mut [u8; park_text::ROOM]) -
     park_text::refusal(refusal, text)
 }
 
-fn main() {
+fn main(rt: HostRuntime) {
     let mut buffer = [0u8; ROOM];
-    let input = read_input(&mut buffer);
-    if input.reply < 0 {
-        os::fail(b"parkbill: standard input");
+    let input = read_input(&mut rt.stdin(), &mut buffer);
+    if let Err(error) = input.reply {
+        let _ = eprintln!(rt; "parkbill: standard input: {error}");
         return;
     }
     let mut text = [0u8; park_text::ROOM];
     let size = answer(&buffer, input.size, &mut text);
-    if !io::write_all(STDOUT_FILENO, &text[..size]) {
-        os::fail(b"parkbill: standard output");
+    if let Err(error) = rt.write_all(&text[..size]) {
+        let _ = eprintln!(rt; "parkbill: standard output: {error}");
     }
 }
