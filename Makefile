@@ -1,5 +1,5 @@
 # make bill FILE=examples/alder.prk    builds what is needed and bills a park file
-# make test                            proves everything from nothing and runs all tests
+# make test                            proves every crate and runs all tests
 # make examples                        the example files and the script bill, with the program as last built
 # make self-test                       holds the test program to finding 209 wrong calculators
 # make bench                           times the calls beside plain Rust
@@ -16,7 +16,7 @@ examples:
 	@sh tests/examples
 
 library:
-	@rt staticlib park_c >&2
+	@cd crates/park_c && rt lib --cpu x86-64 >&2
 
 self-test: library
 	@cargo run --offline --release --quiet --manifest-path tests/differential/Cargo.toml -- self-test

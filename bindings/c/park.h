@@ -1,4 +1,4 @@
-/* The park bill for C and C++. Link libpark_c.a, which `rt staticlib park_c` makes.
+/* The park bill for C and C++. Link libpark_c.a, which `make library` makes.
    Each call returns 0, or the number of the rule that refuses, and writes the place it speaks of
    (a site, line or generator counted from 1), or 0. A refusal writes nothing else, but for *sites and *size, which are 0.
    Pointers must be valid for their lengths, and no two may overlap; file, list and numbers may be of any length, 0 too. */

@@ -11,8 +11,8 @@
 //! Settings from the environment: PARK_SEED, PARK_FILES and PARK_LISTS (the generated files of
 //! version 1, half as many of version 2, and lists), PARK_SAMPLE (how many of the files are printed
 //! too, and a tenth as many of those made from lists), PARKBILL (the program, by default
-//! ../../target/bin/parkbill seen from this package). Exit code: 0 if all agree and every branch was
-//! reached, else 1.
+//! ../../crates/parkbill/out/parkbill seen from this package). Exit code: 0 if all agree and every
+//! branch was reached, else 1.
 
 mod balance;
 mod branches;
@@ -132,7 +132,7 @@ fn in_package(path: &str) -> PathBuf {
 
 fn product() -> impl Product {
     let named = env::var_os("PARKBILL").map(PathBuf::from);
-    let program = named.unwrap_or_else(|| in_package("../../target/bin/parkbill"));
+    let program = named.unwrap_or_else(|| in_package("../../crates/parkbill/out/parkbill"));
     if !program.is_file() {
         println!("no program parkbill at {}", program.display());
         std::process::exit(1);
