@@ -1,5 +1,6 @@
 // The calls for C and Rust. Each returns a refusal's number, or 0, and writes its place, or 0.
 #![tactic(auto)]
+
 ghost use Rattle.std.specs.Prelude.{◌≡◌};
 ghost use Rattle.park_format.specs.Rules.{refusal};
 ghost use Rattle.park_bill.specs.Balance.{InBalance, SiteInBalance};
