@@ -1,5 +1,6 @@
 // The bill of every site of a park file.
 #![tactic(auto)]
+
 pub mod bill;
 pub mod call;
 mod site;
