@@ -1,6 +1,6 @@
 -- Laws of the rule table: how the first broken row of a list is found part by part.
 -- Assumes nothing.
-use Prim.Native.Nat.{ℕ, zero, suc, ◌+◌, ◌≤◌, ◌<◌}
+use Prim.Native.Nat.{ℕ, suc, ◌+◌, ◌≤◌, ◌<◌}
 use native.Mathlib.Nat.{add-zero, suc-add, add-suc}
 use native.Mathlib.Decide.{le_ind}
 use native.Mathlib.Numerals.{add-one}

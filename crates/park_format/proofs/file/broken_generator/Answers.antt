@@ -1,4 +1,4 @@
-use Rattle.std.proofs.Common.{ℕ, ◌-◌, ◌≡◌, Bool, true, false, not, List, refl, sym, ap, ◌∙◌, arith, lt-ltb, le-ltb}
+use Rattle.std.proofs.Common.{ℕ, ◌-◌, ◌≡◌, Bool, false, not, List, refl, sym, ap, ◌∙◌, arith, lt-ltb, le-ltb}
 use Rattle.park_format.specs.Park.{list_of, no_site, site_of}
 use Rattle.park_format.specs.Rules.{generator_rules, has_devices, wrong_generator, zero_or_above}
 use Rattle.park_format.specs.declared.generator.Generator.{Generator}

@@ -1,5 +1,5 @@
 use Rattle.std.proofs.Common.{◌≤◌, ◌++◌, ◌∷◌, [], refl, ap, subst, sym, ◌∙◌, arith}
-use Rattle.park_format.specs.Limits.{most_outputs, most_reading}
+use Rattle.park_format.specs.Limits.{most_reading}
 use Rattle.park_format.specs.Park.{generator_of, list_of}
 use Rattle.park_format.specs.declared.generator.Generator.{Generator}
 use Rattle.park_format.proofs.Lists.{list_of_next}

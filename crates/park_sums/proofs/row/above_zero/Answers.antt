@@ -1,4 +1,4 @@
-use Rattle.std.proofs.Common.{◌≤◌, ◌≡◌, ap, ap₂, subst, sym, ◌∙◌, arith}
+use Rattle.std.proofs.Common.{◌≤◌, ap, ap₂, subst, sym, ◌∙◌, arith}
 use Rattle.std.proofs.Math.IntN.{nat_abs, ◌+ℤ◌}
 use native.Mathlib.Nat.{le_trans}
 use mir.Syntax.{w64}
