@@ -1,6 +1,6 @@
 -- Park Alder's list (01, "Park Alder, and its neighbours"), a list with its file byte by byte, lists of a wrong count, lists that differ
 -- from Alder's in one number, which is too large for its field and within its limits once it is narrowed, and Alder's with a mark of
--- version 2 or with other ends of a line. `List-cases` of proofs/CaseTest.antt proves them.
+-- version 2 or with other ends of a line. `list_cases` of proofs/CaseTest.antt proves them.
 -- Assumes nothing.
 use Rattle.std.specs.Prelude.{ℕ, ◌≡◌, List, [], ◌∷◌, ◌++◌, set, take}
 use Rattle.std.proofs.Math.Option.{some}
