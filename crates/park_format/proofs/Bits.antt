@@ -6,16 +6,12 @@ use native.Mathlib.Omega.{arith}
 use mathlib.Core.Path.{◌≡◌, refl, sym, ap, ◌∙◌}
 use mathlib.Core.Bool.{true, false, not, ◌&&◌, ◌||◌}
 use lib.Dec.{eqb, eqb-zero-suc, eqb-suc-zero, eqb-suc-suc, lit≤}
-use lib.Bits.{bit_and, bit_or, and_mask, and_mod, and_shr, or_shr, or_mod}
+use lib.Bits.{bit_and, bit_or, and_mod, and_shr, or_shr, or_mod}
 use lib.Pow.{pow_mono}
 use lib.Count.{count_trailing_zeros, under, trailing_le}
 use borrow.Author.Tests.{not-true, not-false}
 use Rattle.park_format.specs.Inner.Set.{has, Lowest}
 use Rattle.park_format.specs.Rules.{measures_generated, measures_night}
-
--- the lowest digit, by a mask
-pub low_digit : (x : ℕ) → eqb (bit_and x 1) 1 ≡ eqb (x % 2) 1
-low_digit x = ap (λ (digit : ℕ). eqb digit 1) (and_mask x 1)
 
 -- a digit is 0 or 1
 digit {ℓ} : (P : ℕ → Type ℓ) (x : ℕ) → x < 2 → P 0 → P 1 → P x

@@ -3,7 +3,7 @@
 use Prim.Native.Nat.{ℕ, zero, suc, ◌+◌, ◌*◌, ◌<◌}
 use native.Mathlib.Nat.{add-zero, mul-suc, mul-zero, not-suc-le-zero, le_of_suc-le-suc}
 use native.Mathlib.Omega.{arith}
-use mathlib.Core.Path.{◌≡◌, sym, ap, ap₂, subst, ◌∙◌}
+use mathlib.Core.Path.{◌≡◌, sym, ap, ap₂, ◌∙◌}
 use mathlib.Core.List.{List, [], ◌∷◌, ◌++◌, append_assoc, append-nil}
 use lib.ListN.{length, get_or, take, drop, length-append}
 use lib.Seq.{drop-drop, ext_get_or, take-add}
@@ -74,7 +74,3 @@ module _ {A : Type 0} (writes : A → List ℕ) where
       next_joined n at p q =
           let count = length-joined sized (list_of f n) ∙ ap (λ (k : ℕ). size * k) (length-list_of f n) in
           rw (joined_next f n) (then_stored p (ap (λ (k : ℕ). at + k) count) q)
-
-  -- and at the end
-  pub all_joined : (f : ℕ → A) {n m at : ℕ} {a b : List ℕ} → n ≡ m → Stored (joined writes (list_of f m)) at a b → Stored (joined writes (list_of f n)) at a b
-  all_joined f {at = at} {a} {b} e p = subst (λ (k : ℕ). Stored (joined writes (list_of f k)) at a b) (sym e) p

@@ -7,7 +7,7 @@ use mathlib.Core.Path.{◌≡◌, refl}
 use mathlib.Core.Bool.{Bool, true, false, cond}
 use mathlib.Core.List.{[], ◌∷◌}
 use lib.Dec.{eqb}
-use Rattle.park_format.specs.Format.{header_size, line_size, line_start, shortest_header, shortest_line, site_size, site_start, total}
+use Rattle.park_format.specs.Format.{header_size, line_size, line_start, shortest_header, shortest_line, total}
 use Rattle.park_format.specs.Inner.Sized.{Sized}
 use Rattle.park_format.specs.Limits.{latest_version}
 use Rattle.park_format.specs.declared.header.Header.{Header}
@@ -36,9 +36,6 @@ latest_sizes = (refl, refl)
 -- record i of n, all of one size, ends with the last or before
 pub stride : (size i n : ℕ) → i < n → size * i + size ≤ size * n
 stride size i n h = omega (arith, mul-suc size i, mul-le-mul_left size h)
-
-pub site_within : {h : Header} {bytes i : ℕ} → Sized h bytes → i < h.sites → site_start h.version i + site_size ≤ bytes
-site_within {h} {bytes} {i} z there = omega (arith, z.size)
 
 pub line_within : {h : Header} {bytes i : ℕ} → Sized h bytes → i < h.lines → line_start h.version h.sites i + line_size h.version ≤ bytes
 line_within {h} {bytes} {i} z there = omega (arith, z.size, stride (line_size h.version) i h.lines there)

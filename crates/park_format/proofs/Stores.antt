@@ -2,15 +2,12 @@
 -- Assumes nothing.
 use Prim.Native.Nat.{ℕ, suc, ◌+◌}
 use native.Mathlib.Nat.{add-zero, add-suc, suc-add, add_assoc}
-use native.Mathlib.Omega.{arith}
 use mathlib.Core.Path.{◌≡◌, refl, ◌∙◌}
 use mathlib.Core.List.{List, [], ◌∷◌, ◌++◌, append-nil}
 use lib.ListN.{length, set}
 use lib.Seq.{sets}
-use Rattle.park_format.specs.Inner.Sized.{Sized}
 use Rattle.park_format.specs.Inner.Stored.{Stored}
 use Rattle.park_format.specs.Made.{bytes_of}
-use Rattle.park_format.specs.declared.header.Header.{Header}
 use Rattle.park_format.proofs.Bytes.{length-bytes_of}
 
 sets-append : (vs l ws : List ℕ) (i : ℕ) → sets l i (vs ++ ws) ≡ sets (sets l i vs) (i + length vs) ws
@@ -34,7 +31,3 @@ next_stored at k w n p q = first_stored w n p (rw (add_assoc at k w) q)
 
 pub last_stored : (w n : ℕ) {at : ℕ} {a b : List ℕ} → Stored (bytes_of w n) at a b → Stored (bytes_of w n ++ []) at a b
 last_stored w n p = rw (append-nil (bytes_of w n)) p
-
--- a store leaves the room that there was
-pub still_sized : {h : Header} {bytes a b : List ℕ} {at : ℕ} → Stored bytes at a b → Sized h (length a) → Sized h (length b)
-still_sized p s = record { sites = s.sites; lines = s.lines; generators = s.generators; size = omega (arith, p.size, s.size) }

@@ -23,10 +23,6 @@ or_next false b e f = f
 pub or_no : (a b : Bool) → a ≡ false → b ≡ false → (a || b) ≡ false
 or_no a b e f = sym (or_next a b e (sym f))
 
-pub or_none : (a b : Bool) → b ≡ false → a ≡ (a || b)
-or_none true b e = refl
-or_none false b e = sym e
-
 pub or-false : (a b : Bool) → (a || b) ≡ false → (a ≡ false) × (b ≡ false)
 or-false true b e = absurd (true≢false e)
 or-false false b e = (refl, e)

@@ -60,9 +60,6 @@ pub near_fits : (z : ℤ) → nat_abs z ≤ most_net → SFits w64 z
 near_fits z h = small_fits z (omega arith)
 
 -- the machine reads a number that is small enough as it is
-pub read_small : (n : ℕ) → n < 2 ^ 63 → to_z w64 n ≡ pos n
-read_small n h = to_z-of_z w64 (pos n) (record { sfits = h })
-
 pub read_whole : (z : ℤ) → SFits w64 z → to_z w64 (of_z w64 z) ≡ z
 read_whole z h = to_z-of_z w64 z h
 

@@ -1,5 +1,4 @@
-// What the walks over the lines add up for a site, its inputs less its transits: a row of numbers. It is an array and no struct, since
-// an array of structs cannot be lent.
+// What the walks over the lines add up for a site, its inputs less its transits: a row of numbers, whose places have names.
 ghost use Rattle.std.specs.Prelude.{◌≡◌, ◌*◌, ◌≤◌, ◌<◌, pos, ◌+ℤ◌, ◌-ℤ◌, nat_abs};
 ghost use Rattle.park_format.specs.Limits.{most_active, most_loss, most_losses, most_net};
 ghost use Rattle.park_charge.specs.Losses.{above_zero, split_sum};
