@@ -2,16 +2,23 @@
 #![tactic(auto)]
 
 ghost use Rattle.std.specs.Prelude.{◌≡◌};
-ghost use Rattle.park_format.specs.Rules.{refusal};
+ghost use Rattle.park_format.specs.Rules.{refusal, rule_number};
 ghost use Rattle.park_bill.specs.Balance.{InBalance, SiteInBalance};
 ghost use Rattle.park_bill.specs.Reply.{list_after, park_outcome, site_outcome};
 ghost use Rattle.park_encode.specs.Encode.{buffer_after, encode_outcome};
 ghost use Rattle.park_c.specs.Outcome.{checked, number_of, numbers_after, place_of, returned, value_of};
 
 use park_bill::bill::Bill;
-use park_bill::call::{ParkReply, SiteReply};
-use park_encode::call::EncodeReply;
-use park_format::rule::Verdict;
+use park_format::rule::Refusal;
+
+// Writes the place of a refusal, and returns its number.
+fn tell(refusal: Refusal, place: &mut u64) -> u64
+    ensures number { result ≡ rule_number refusal.rule }
+    ensures place { place.new ≡ refusal.place }
+{
+    *place = u64::from(refusal.place);
+    u64::from(refusal.rule)
+}
 
 // Checks a file.
 #[unsafe(no_mangle)]
@@ -20,14 +27,11 @@ pub extern "C" fn park_check(file: &[u8], place: &mut u64) -> u64
     ensures place { place.new ≡ place_of (checked (refusal file.now)) }
 {
     match park_format::check(file) {
-        Verdict::Refused(r) => {
-            *place = r.place as u64;
-            r.number as u64
-        }
-        Verdict::Accepted => {
+        Ok(()) => {
             *place = 0;
             0
         }
+        Err(r) => tell(r, place),
     }
 }
 
@@ -45,15 +49,12 @@ pub extern "C" fn park_bill_site(
     ensures balance { SiteInBalance file.now site (returned result bill.new) }
 {
     match park_bill::bill_site(file, site) {
-        SiteReply::Refused(refusal) => {
-            *place = refusal.place as u64;
-            refusal.number as u64
-        }
-        SiteReply::Billed(b) => {
+        Ok(b) => {
             b.write(bill);
             *place = 0;
             0
         }
+        Err(refusal) => tell(refusal, place),
     }
 }
 
@@ -72,15 +73,14 @@ pub extern "C" fn park_bill_park(
     ensures balance { InBalance file.now list.old list.new }
 {
     match park_bill::bill_park(file, list) {
-        ParkReply::Refused(refused) => {
-            *place = refused.place as u64;
-            *sites = 0;
-            refused.number as u64
-        }
-        ParkReply::Billed(count) => {
+        Ok(count) => {
             *place = 0;
             *sites = count;
             0
+        }
+        Err(refused) => {
+            *sites = 0;
+            tell(refused, place)
         }
     }
 }
@@ -100,15 +100,14 @@ pub extern "C" fn park_encode(
     ensures size { size.new ≡ value_of (encode_outcome numbers.now file.old) }
 {
     match park_encode::encode(numbers, file) {
-        EncodeReply::Refused(broken) => {
-            *place = broken.place as u64;
-            *size = 0;
-            broken.number as u64
-        }
-        EncodeReply::Encoded(length) => {
+        Ok(length) => {
             *place = 0;
             *size = length as u64;
             0
+        }
+        Err(broken) => {
+            *size = 0;
+            tell(broken, place)
         }
     }
 }

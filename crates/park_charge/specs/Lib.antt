@@ -3,4 +3,5 @@ pub mod Flow
 pub mod Losses
 pub mod Generation
 pub mod Charge
+pub mod Reason
 pub mod Former

@@ -1,10 +1,10 @@
 -- What an accepted list guarantees: its count is right, and its park keeps every rule and fits a file.
 -- Assumes nothing.
-use Prim.Native.Nat.{ℕ, ◌≤◌}
+use Prim.Native.Nat.{ℕ}
 use mathlib.Core.Path.{◌≡◌, refl}
 use mathlib.Core.List.{List}
 use lib.ListN.{length}
-use borrow.Author.Tests.{eqb-true, ltb-false, not-false}
+use borrow.Author.Tests.{eqb-true, not-false}
 use Rattle.park_format.specs.Accepted.{Kept}
 use Rattle.park_format.specs.Made.{FitsFile, Lacking}
 use Rattle.park_format.specs.Park.{list_of}
@@ -13,7 +13,7 @@ use Rattle.park_format.proofs.Accepted.{kept_park, Parts, parts, right_length}
 use Rattle.park_format.proofs.Fits.{kept_fits}
 use Rattle.park_format.proofs.Lists.{Every-list_of, length-list_of}
 use Rattle.park_encode.specs.Encode.{has_too_few, has_wrong_count, IsAcceptedList, list_refusal, list_rules, made_size}
-use Rattle.park_encode.specs.Numbers.{header_fields, list_count, list_header, list_line, list_park, list_site}
+use Rattle.park_encode.specs.Numbers.{list_count, list_header, list_line, list_park, list_site}
 
 pub site_count_lem : (numbers : List ℕ) → length (list_park numbers).sites ≡ (list_park numbers).header.sites
 unfolding list_park
@@ -40,9 +40,6 @@ module _ (numbers : List ℕ) (accepted : IsAcceptedList numbers) where
   list_parts : Parts (has_too_few numbers) (has_wrong_count numbers) (list_park numbers)
   unfolding list_refusal list_rules
   list_parts = parts (has_too_few numbers) (has_wrong_count numbers) (list_park numbers) accepted
-
-  pub enough : header_fields ≤ length numbers
-  enough = ltb-false (length numbers) header_fields list_parts.start
 
   pub list_count_lem : length numbers ≡ list_count (list_header numbers).sites (list_header numbers).lines
   list_count_lem = eqb-true (length numbers) _ (not-false _ (right_length (has_wrong_count numbers) (list_park numbers).header list_parts.header))

@@ -9,16 +9,15 @@ use mathlib.Core.Option.{Option, none, some}
 use borrow.Author.Tests.{eq-eqb, ltb-false, ltb-true, ne_eqb}
 use lib.Dec.{lit≤}
 use lib.ListN.{length}
-use Rattle.park_format.specs.Park.{list_of, no_generator}
+use Rattle.park_format.specs.Park.{list_of}
 use Rattle.park_format.specs.Rules.{each, first_broken, header_rules}
 use Rattle.park_format.specs.declared.header.Header.{Header}
 use Rattle.park_format.proofs.Rules.{same_refusal}
 use Rattle.park_format.proofs.Said.{before_nine, first_says, nine_decides, table_says}
-use Rattle.park_format.proofs.Verdict.{header_refused}
 use Rattle.park_encode.specs.Encode.{has_too_few, has_wrong_count, list_refusal, list_rules}
-use Rattle.park_encode.specs.Numbers.{header_fields, list_header, list_line, list_park, list_site}
+use Rattle.park_encode.specs.Numbers.{header_fields, list_header, list_park}
 use Rattle.park_encode.specs.Refused.{TooFew, WrongCount}
-use Rattle.park_encode.proofs.Table.{few_refused, list_table}
+use Rattle.park_encode.proofs.Table.{few_refused, list_refuses}
 
 module _ (numbers : List ℕ) where
   -- what holds of 4 to 8 and from 10 on, of 1 where there are too few numbers and of 9 where their count is wrong holds of the refusal
@@ -52,7 +51,7 @@ module _ (numbers : List ℕ) where
 
   -- a broken rule of the header is the list's, if there is a header
   its_header : header_fields ≤ length numbers → {r : ℕ × ℕ} → first_broken (header_rules (has_wrong_count numbers) h) ≡ some r → list_refusal numbers ≡ some r
-  its_header five e = sym (header_refused (has_wrong_count numbers) h (list_site numbers) (list_line h numbers) (λ (i : ℕ). no_generator) (list_table numbers h refl five) (sym e))
+  its_header five e = sym (list_refuses numbers five (sym e))
 
   said_nine : header_fields ≤ length numbers → first_broken (header_rules false h) ≡ none → has_wrong_count numbers ≡ true → list_refusal numbers ≡ some (9, 0)
   said_nine five kept wrong = its_header five (nine_decides h (has_wrong_count numbers) kept wrong)

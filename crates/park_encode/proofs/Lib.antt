@@ -1,6 +1,6 @@
-pub mod Records
 pub mod Table
 pub mod Accepted
+pub mod Entries
 pub mod Written
 pub mod Numbers
 pub mod Refusals

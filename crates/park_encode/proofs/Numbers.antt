@@ -1,14 +1,12 @@
 -- A list that is read as a park is that park's list, and the list of a park of version 1 is read as that park.
 -- Assumes nothing.
-use Prim.Native.Nat.{ℕ, zero, suc, ◌+◌, ◌*◌, ◌≤◌, ◌<◌, ◌^◌}
-use native.Mathlib.Nat.{add_assoc}
-use native.Mathlib.Numerals.{add-one}
+use Prim.Native.Nat.{ℕ, ◌+◌, ◌*◌, ◌<◌, ◌^◌}
 use native.Mathlib.Omega.{arith}
 use mathlib.Core.Path.{◌≡◌, refl, sym, ap, ap₂, subst, ◌∙◌}
-use mathlib.Core.List.{List, [], ◌∷◌, ◌++◌, append_assoc, append-nil}
+use mathlib.Core.List.{List, [], ◌++◌, append_assoc, append-nil}
 use lib.Dec.{lit≤}
-use lib.ListN.{drop, get_or, length, length-append, take}
-use lib.Seq.{drop-append_seam, drop-cons}
+use lib.ListN.{drop, length, length-append, take}
+use lib.Seq.{drop-append_seam}
 use Rattle.park_format.specs.Accepted.{Every}
 use Rattle.park_format.specs.Format.{header_widths, line_widths, site_widths}
 use Rattle.park_format.specs.Made.{Fits, FitsFile, header_numbers, joined, Lacking, line_numbers, site_numbers}
@@ -21,25 +19,7 @@ use Rattle.park_format.proofs.Bytes.{fits_wide}
 use Rattle.park_format.proofs.Joined.{all_back, Back, Every-joined, joined_read, length-joined}
 use Rattle.park_format.proofs.Lists.{Every_all, Every_join, every_map, three_parts}
 use Rattle.park_encode.specs.Numbers.{first_of, header_fields, line_fields, line_first, list_count, list_header, list_line, list_park, list_site, numbers_of, site_fields, site_first, version}
-use Rattle.park_encode.proofs.Records.{line_at_lem, site_at_lem}
-
--- k numbers from a position on, one by one
-abbrev run : ℕ → List ℕ → ℕ → List ℕ
-run zero numbers at = []
-run (suc k) numbers at = get_or numbers at 0 ∷ run k numbers (at + 1)
-
-run_is : (k : ℕ) (numbers : List ℕ) (at : ℕ) → at + k ≤ length numbers → run k numbers at ≡ take k (drop at numbers)
-run_is zero numbers at h = refl
-run_is (suc k) numbers at h =
-    let inside : at < length numbers = omega arith in
-    rw (drop-cons numbers at 0 inside) (ap (λ (l : List ℕ). get_or numbers at 0 ∷ l) (run_is k numbers (at + 1) (omega arith) ∙ rw add-one))
-
--- the numbers of a site, and of a line
-five : (numbers : List ℕ) (at : ℕ) → at + site_fields ≤ length numbers → get_or numbers at 0 ∷ get_or numbers (at + 1) 0 ∷ get_or numbers (at + 2) 0 ∷ get_or numbers (at + 3) 0 ∷ get_or numbers (at + 4) 0 ∷ [] ≡ take site_fields (drop at numbers)
-five numbers at h = simp add_assoc at (run_is site_fields numbers at h)
-
-eight : (numbers : List ℕ) (at : ℕ) → at + line_fields ≤ length numbers → get_or numbers at 0 ∷ get_or numbers (at + 1) 0 ∷ get_or numbers (at + 2) 0 ∷ get_or numbers (at + 3) 0 ∷ get_or numbers (at + 4) 0 ∷ get_or numbers (at + 5) 0 ∷ get_or numbers (at + 6) 0 ∷ get_or numbers (at + 7) 0 ∷ [] ≡ take line_fields (drop at numbers)
-eight numbers at h = simp add_assoc at (run_is line_fields numbers at h)
+use Rattle.park_encode.proofs.Entries.{first_is, window_is}
 
 module _ (numbers : List ℕ) (count : length numbers ≡ list_count (list_header numbers).sites (list_header numbers).lines) where
   abbrev h : Header
@@ -47,13 +27,15 @@ module _ (numbers : List ℕ) (count : length numbers ≡ list_count (list_heade
 
   header_again : drop 2 (header_numbers version h) ≡ take header_fields numbers
   unfolding list_header list_of
-  header_again = run_is header_fields numbers 0 (omega (arith, count))
+  header_again = first_is header_fields numbers (omega (arith, count))
 
   site_again : (i : ℕ) → i < h.sites → site_numbers (list_site numbers i) ≡ take site_fields (drop (site_first i) numbers)
-  site_again i i<s = ap site_numbers (site_at_lem numbers i) ∙ five numbers (site_first i) (omega (arith, count))
+  unfolding list_site list_of
+  site_again i i<s = window_is site_fields numbers (site_first i) (omega (arith, count))
 
   line_again : (i : ℕ) → i < h.lines → line_numbers version (list_line h numbers i) ≡ take line_fields (drop (line_first h.sites i) numbers)
-  line_again i i<n = ap (line_numbers version) (line_at_lem h numbers i) ∙ eight numbers (line_first h.sites i) (omega (arith, count))
+  unfolding list_line list_of
+  line_again i i<n = window_is line_fields numbers (line_first h.sites i) (omega (arith, count))
 
   pub list_again : numbers_of (list_park numbers) ≡ numbers
   unfolding list_park numbers_of

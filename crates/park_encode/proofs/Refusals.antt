@@ -1,12 +1,12 @@
--- Laws of the refusal of `encode`: the list's own comes first, and last 22.
+-- Laws of the refusal of `encode`: the list's own comes first, and a list and a buffer that pass both are not refused.
 -- Assumes nothing.
-use Prim.Native.Nat.{ℕ, ◌≤◌, ◌<◌}
+use Prim.Native.Nat.{ℕ, ◌≤◌}
 use mathlib.Core.Path.{◌≡◌}
 use mathlib.Core.List.{List}
 use mathlib.Core.Option.{none, some}
-use borrow.Author.Tests.{le-ltb, lt-ltb}
+use borrow.Author.Tests.{le-ltb}
 use lib.ListN.{length}
-use Rattle.park_format.proofs.Call.{call_allows, call_refuses, rules_first}
+use Rattle.park_format.proofs.Call.{call_allows, rules_first}
 use Rattle.park_encode.specs.Encode.{encode_refusal, IsAcceptedList, list_refusal, list_rules, made_size}
 
 module _ (numbers buffer : List ℕ) where
@@ -14,11 +14,6 @@ module _ (numbers buffer : List ℕ) where
   unfolding encode_refusal list_refusal
   list_first e = rules_first (list_rules numbers) _ e
 
-  module _ (accepted : IsAcceptedList numbers) where
-    pub buffer_refused : length buffer < made_size numbers → encode_refusal numbers buffer ≡ some (22, 0)
-    unfolding encode_refusal list_refusal
-    buffer_refused short = call_refuses (list_rules numbers) 22 0 _ accepted (lt-ltb (length buffer) (made_size numbers) short)
-
-    pub nothing_refused : made_size numbers ≤ length buffer → encode_refusal numbers buffer ≡ none
-    unfolding encode_refusal list_refusal
-    nothing_refused room = call_allows (list_rules numbers) 22 0 _ accepted (le-ltb (length buffer) (made_size numbers) room)
+  pub nothing_refused : IsAcceptedList numbers → made_size numbers ≤ length buffer → encode_refusal numbers buffer ≡ none
+  unfolding encode_refusal list_refusal
+  nothing_refused accepted room = call_allows (list_rules numbers) 22 0 _ accepted (le-ltb (length buffer) (made_size numbers) room)

@@ -2,47 +2,52 @@
 -- Assumes nothing.
 use Prim.Native.Nat.{ℕ, ◌≤◌, ◌<◌}
 use mathlib.Core.Path.{◌≡◌, refl, sym, ap, ◌∙◌}
+use mathlib.Core.Bool.{false, not}
 use mathlib.Core.List.{List}
-use mathlib.Core.Option.{none, some}
+use mathlib.Core.Option.{Option, none, some}
 use native.Mathlib.Omega.{arith}
+use lib.Dec.{eqb}
 use lib.ListN.{length}
 use borrow.Author.Tests.{eqb-true, le-ltb, lt-ltb, not-false}
-use Rattle.park_format.specs.Park.{list_of, no_generator}
-use Rattle.park_format.specs.Rules.{each, first_broken, generator_rules, header_rules, rules_with, size_of}
+use Rattle.park_format.specs.Inner.Recorded.{record_rules}
+use Rattle.park_format.specs.Rules.{first_broken, header_rules, rules_of, rules_with, size_of}
 use Rattle.park_format.specs.declared.header.Header.{Header}
-use Rattle.park_format.specs.declared.site.Site.{Site}
 use Rattle.park_format.proofs.Accepted.{kept_fields, right_length}
-use Rattle.park_format.proofs.Verdict.{Table}
+use Rattle.park_format.proofs.Verdict.{header_refuses, records_decide}
 use Rattle.park_encode.specs.Encode.{has_wrong_count, list_refusal, list_rules}
 use Rattle.park_encode.specs.Inner.Counted.{Counted}
-use Rattle.park_encode.specs.Numbers.{header_fields, list_count, list_header, list_line, list_park, list_site, version}
+use Rattle.park_encode.specs.Numbers.{header_fields, list_count, list_header, list_park}
 
-pub few_refused : (numbers : List ℕ) → length numbers < header_fields → some (1, 0) ≡ list_refusal numbers
-unfolding list_refusal list_rules rules_with first_broken
-few_refused numbers h = rw (lt-ltb (length numbers) header_fields h)
+module _ (numbers : List ℕ) where
+  abbrev h : Header
+  h = list_header numbers
 
-pub list_table : (numbers : List ℕ) (h : Header) → h ≡ list_header numbers → header_fields ≤ length numbers → Table (has_wrong_count numbers) h (list_site numbers) (list_line h numbers) (λ (i : ℕ). no_generator) (list_refusal numbers)
-unfolding list_refusal list_rules list_park list_header list_of
-list_table numbers h read long = rw (le-ltb (length numbers) header_fields long, read)
+  pub few_refused : length numbers < header_fields → some (1, 0) ≡ list_refusal numbers
+  unfolding list_refusal list_rules rules_with first_broken
+  few_refused few = rw (lt-ltb (length numbers) header_fields few)
 
--- it has no generator that could break a rule
-pub no_generators : (numbers : List ℕ) (h : Header) (sites : List Site) → h ≡ list_header numbers → none ≡ first_broken (each (generator_rules h sites) 1 (list_of (λ (i : ℕ). no_generator) h.generators))
-unfolding list_header list_of each first_broken
-no_generators numbers h sites read = rw read
+  list_table : header_fields ≤ length numbers → list_refusal numbers ≡ first_broken (rules_of false (has_wrong_count numbers) (list_park numbers))
+  unfolding list_refusal list_rules
+  list_table long = rw (le-ltb (length numbers) header_fields long)
 
--- its version is 1
-pub first_version : (numbers : List ℕ) {h : Header} → h ≡ list_header numbers → h.version ≡ version
-unfolding list_header
-first_version numbers read = ap (λ (x : Header). x.version) read
+  -- refused by a rule of its header
+  pub list_refuses : {r : ℕ × ℕ} → header_fields ≤ length numbers → some r ≡ first_broken (header_rules (has_wrong_count numbers) h) → some r ≡ list_refusal numbers
+  unfolding list_park
+  list_refuses long e = header_refuses (list_park numbers) (has_wrong_count numbers) e ∙ sym (list_table long)
 
--- with a header that keeps its rules it has as many numbers as the header asks for
-pub counted : (numbers : List ℕ) (h : Header) → h ≡ list_header numbers → none ≡ first_broken (header_rules (has_wrong_count numbers) h) → Counted h (length numbers)
-counted numbers h read sound =
-    let kept = kept_fields (has_wrong_count numbers) h (sym sound) (size_of h) refl in
-    let count = eqb-true (length numbers) _ (not-false _ (right_length (has_wrong_count numbers) h (sym sound))) in
-    record {
-      first = first_version numbers read;
-      sites = kept.sites.1;
-      lines = kept.lines.1;
-      size = omega (arith, count ∙ ap (λ (x : Header). list_count x.sites x.lines) (sym read));
-    }
+  -- the rules of the header, as they were looked at: the count that was compared is the one that it asks for
+  pub looked : {count : ℕ} {told : Option (ℕ × ℕ)} → count ≡ list_count h.sites h.lines → told ≡ first_broken (header_rules (not (eqb (length numbers) count)) h) → told ≡ first_broken (header_rules (has_wrong_count numbers) h)
+  looked asks told = told ∙ ap (λ (n : ℕ). first_broken (header_rules (not (eqb (length numbers) n)) h)) asks
+
+  module _ (sound : none ≡ first_broken (header_rules (has_wrong_count numbers) h)) where
+    -- with a header that keeps its rules it has as many numbers as the header asks for
+    pub counted : Counted h (length numbers)
+    counted =
+        let kept = kept_fields (has_wrong_count numbers) h (sym sound) (size_of h) refl in
+        let count = eqb-true (length numbers) _ (not-false _ (right_length (has_wrong_count numbers) h (sym sound))) in
+        record { sites = kept.sites.1; lines = kept.lines.1; size = omega (arith, count) }
+
+    -- and then its records decide
+    pub list_decides : first_broken (record_rules (list_park numbers)) ≡ list_refusal numbers
+    unfolding list_park
+    list_decides = records_decide (list_park numbers) (has_wrong_count numbers) sound ∙ sym (list_table (omega (arith, counted.size)))

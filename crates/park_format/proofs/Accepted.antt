@@ -10,11 +10,12 @@ use mathlib.Core.Option.{none}
 use lib.Dec.{eqb, ltb, leb}
 use lib.ListN.{get_or, length}
 use Rattle.park_format.specs.Format.{shortest_header}
+use Rattle.park_format.specs.Inner.Recorded.{Recorded}
 use Rattle.park_format.specs.Inner.Sized.{Sized}
 use Rattle.park_format.specs.Limits.{latest_version, months, most_discount, most_eerp, most_flag, most_generators, most_installed, most_lines, most_mark, most_power, most_price, most_reading, most_sites}
 use borrow.Author.Tests.{eqb-true, eqb-false, ltb-false, leb-false, not-false, ne_eqb, eq-eqb}
 use Rattle.park_format.specs.Park.{generator_of, inputs, line_of, no_site, Park, park_of, site_of}
-use Rattle.park_format.specs.Rules.{IsAccepted, Row, first_broken, header_rules, site_rules, line_rules, generator_rules, input_rules, each, file_rules, has_devices, has_wrong_length, is_short, rules_of, rules_with, refusal, start_rules, wrong_device, without_meter, measures_reactive, measures_generated, measures_night, measures_produced, is_empty, park_mark, size_of, most_hours, end_above, both_network, backwards, reading_above, wrong_devices, wrong_meters, wrong_readings, zero_or_above}
+use Rattle.park_format.specs.Rules.{IsAccepted, KeepsRules, Row, first_broken, header_rules, site_rules, line_rules, generator_rules, input_rules, each, file_rules, has_devices, has_wrong_length, is_short, rules_of, rules_with, refusal, start_rules, wrong_device, without_meter, measures_reactive, measures_generated, measures_night, measures_produced, is_empty, park_mark, size_of, most_hours, end_above, both_network, backwards, reading_above, wrong_devices, wrong_meters, wrong_readings, zero_or_above}
 use Rattle.park_format.specs.Rules.Row.{rule}
 use Rattle.park_format.specs.Accepted.{Every, Guarantee, Kept, KeptGenerator, KeptHeader, KeptLine, KeptSite}
 use Rattle.park_format.specs.declared.header.Header.{Header}
@@ -212,6 +213,10 @@ kept_park {wrongLength = wrongLength} p size is same site_count line_count gener
       generators = each_kept (generator_rules h p.sites) (KeptGenerator h p.sites) (kept_generator h p.sites) 1 p.generators is.generators;
       fed = λ k low high. rw (← (add-sub_of_le low)) (fed_from p.lines 1 (k - 1) p.sites is.inputs (omega arith));
     }
+
+-- one whose records are as many as its header says, read from wherever
+pub park_kept : (p : Park) → Recorded p → KeepsRules p → Kept (size_of p.header) p
+park_kept p recorded keeps = kept_park p (size_of p.header) (parts false false p keeps) refl recorded.sites recorded.lines recorded.generators
 
 -- an accepted file keeps every rule
 pub kept : Guarantee

@@ -1,13 +1,13 @@
 -- Numbers and records as bytes: what is written is read, what is read is written again, and what is written are bytes.
 -- Assumes nothing.
-use Prim.Native.Nat.{ℕ, zero, suc, ◌+◌, ◌*◌, ◌/◌, ◌%◌, ◌≤◌, ◌<◌, ◌^◌}
+use Prim.Native.Nat.{ℕ, zero, suc, ◌+◌, ◌-◌, ◌*◌, ◌/◌, ◌%◌, ◌≤◌, ◌<◌, ◌^◌}
 use native.Mathlib.Nat.{pow-succ'}
 use native.Mathlib.Numerals.{add-one}
 use native.Mathlib.Omega.{arith}
 use mathlib.Core.Path.{◌≡◌, refl, ap, ◌∙◌}
 use mathlib.Core.List.{List, [], ◌∷◌, ◌++◌, append_assoc}
-use lib.ListN.{length, take, drop, length-append}
-use lib.Seq.{get_or-append_seam, drop-cons, drop-drop, take-add}
+use lib.ListN.{length, take, drop, length-append, set}
+use lib.Seq.{get_or-append_seam, drop-cons, drop-drop, sets, take-add}
 use Rattle.park_format.specs.Accepted.{Every}
 use Rattle.park_format.specs.Format.{byte, fields_at, number_at, total}
 use Rattle.park_format.specs.Made.{AreBytes, bytes_for, bytes_of, Fits}
@@ -18,22 +18,26 @@ unfolding bytes_of
 length-bytes_of zero n = refl
 length-bytes_of (suc w) n = ap suc (length-bytes_of w (n / 256))
 
--- a number in parts: its lowest byte or two, and the rest
-pub after_one : (w n : ℕ) → bytes_of (suc w) n ≡ bytes_of 1 n ++ bytes_of w (n / 256)
-unfolding bytes_of
-after_one w n = refl
-
-pub after_two : (w n : ℕ) → bytes_of (suc (suc w)) n ≡ bytes_of 2 n ++ bytes_of w (n / 65536)
-unfolding bytes_of
-after_two w n =
-    let twice : n / 256 / 256 ≡ n / 65536 = omega arith in
-    ap (λ (m : ℕ). n % 256 ∷ n / 256 % 256 ∷ bytes_of w m) twice
-
 pub length-bytes_for : (ws ns : List ℕ) → length ns ≡ length ws → length (bytes_for ws ns) ≡ total ws
 unfolding bytes_for
 length-bytes_for [] ns e = refl
 length-bytes_for (w ∷ ws) [] e = absurd (omega arith)
 length-bytes_for (w ∷ ws) (n ∷ ns) e = rw (length-append, length-bytes_of, length-bytes_for ws ns (omega arith))
+
+-- a number from its highest byte downwards: the byte at i, and what the w bytes after it come to
+module _ (file : List ℕ) (at w i : ℕ) (some : 0 < i) where
+  pub byte_before : number_at (suc w) file (at + (i - 1)) ≡ 256 * number_at w file (at + i) + byte file (at + (i - 1))
+  unfolding number_at
+  byte_before = let next : at + (i - 1) + 1 ≡ at + i = omega arith in rw next (omega arith)
+
+-- a number with one byte more is small enough for it
+pub byte_fits : (w n b : ℕ) → n < 256 ^ w → b < 256 → 256 * n + b < 256 ^ suc w
+byte_fits w n b h small = omega (arith, pow-succ' 256 w)
+
+-- a number from its lowest byte upwards: the byte is stored, and then the rest
+pub byte_stored : (w rest at : ℕ) (file : List ℕ) → sets file at (bytes_of (suc w) rest) ≡ sets (set file at (rest % 256)) (at + 1) (bytes_of w (rest / 256))
+unfolding bytes_of
+byte_stored w rest at file = rw add-one refl
 
 -- read from what was written, anywhere in a list
 pub number-bytes : (w n : ℕ) (pre post : List ℕ) → n < 256 ^ w → number_at w (pre ++ (bytes_of w n ++ post)) (length pre) ≡ n
@@ -87,7 +91,7 @@ bytes_for_small (w ∷ ws) [] = tt
 bytes_for_small (w ∷ ws) (n ∷ ns) = Every_join (λ (b : ℕ). b < 256) (bytes_of w n) (bytes_for ws ns) (bytes_of_small w n) (bytes_for_small ws ns)
 
 -- a number that fits four bytes or fewer has 32 bits
-small_wide : (w n : ℕ) → w ≤ 4 → n < 256 ^ w → n < 2 ^ 32
+pub small_wide : (w n : ℕ) → w ≤ 4 → n < 256 ^ w → n < 2 ^ 32
 small_wide zero n h f = omega arith
 small_wide (suc zero) n h f = omega arith
 small_wide (suc (suc zero)) n h f = omega arith

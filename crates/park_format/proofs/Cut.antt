@@ -11,8 +11,8 @@ use lib.Dec.{eqb}
 use lib.ListN.{length, take}
 use lib.Seq.{get_or-take, length-take-le}
 use Rattle.park_format.specs.Format.{fields_at, header_size, header_widths, number_at, total, version_of}
-use Rattle.park_format.specs.Park.{generator_of, header_from, header_of, line_of, site_of}
-use Rattle.park_format.specs.Rules.{Row, first_broken, has_wrong_length, header_rules, refusal, size_of}
+use Rattle.park_format.specs.Park.{header_from, header_of}
+use Rattle.park_format.specs.Rules.{Row, first_broken, header_rules, refusal, size_of}
 use Rattle.park_format.specs.Rules.Row.{rule}
 use Rattle.park_format.specs.Cut.{CutRefusal, longest}
 use Rattle.park_format.specs.Limits.{most_lines}
@@ -20,7 +20,7 @@ use Rattle.park_format.specs.declared.header.Header.{Header}
 use Rattle.park_format.proofs.Accepted.{kept_header}
 use Rattle.park_format.proofs.Sizes.{header_sizes, latest_sizes, lines_most}
 use Rattle.park_format.proofs.Rules.{first_append, first_stays}
-use Rattle.park_format.proofs.Verdict.{file_table, header_refused}
+use Rattle.park_format.proofs.Verdict.{file_refuses}
 
 -- numbers that lie within the first bytes of a file
 number_cut : (w bytes : ℕ) (file : List ℕ) (at : ℕ) → at + w ≤ bytes → number_at w (take bytes file) at ≡ number_at w file at
@@ -70,7 +70,7 @@ header_long h = by (first_broken (before_length h)) refl
 -- and that refusal is the file's
 long_refused : (file : List ℕ) (h : Header) → h ≡ header_of file → longest < length file → refusal file ≡ some (header_long h).0
 long_refused file h read more =
-    sym (header_refused (has_wrong_length file) h (site_of h file) (line_of h file) (generator_of h file) (file_table file h read (omega arith)) ((header_long h).1 (length file) more ∙ ap (λ (x : Header). first_broken (header_rules (not (eqb (length file) (size_of x))) h)) read))
+    sym (file_refuses file h read (omega arith) ((header_long h).1 (length file) more ∙ ap (λ (x : Header). first_broken (header_rules (not (eqb (length file) (size_of x))) h)) read))
 
 pub cut_refusal : CutRefusal
 cut_refusal bytes more file longer =

@@ -17,7 +17,7 @@ use Rattle.park_format.specs.declared.header.Header.{Header}
 use Rattle.park_format.specs.declared.line.Line.{Line}
 use Rattle.park_format.proofs.Lists.{Every-list_of}
 use Rattle.park_format.proofs.Rules.{first_append, first_stays}
-use Rattle.park_format.proofs.Records.{header_of_lem, line_at_lem}
+use Rattle.park_format.proofs.Fields.{header_of_lem, line_at_lem}
 
 pub first_fields : FirstFields
 first_fields = record { header = refl; line = refl }

@@ -3,7 +3,7 @@ pub mod Lists
 pub mod Bits
 pub mod Rules
 pub mod Sizes
-pub mod Records
+pub mod Fields
 pub mod Entries
 pub mod Accepted
 pub mod Verdict

@@ -9,7 +9,7 @@ use mathlib.Core.Path.{◌≡◌, refl, sym, ap, subst, ◌∙◌}
 use mathlib.Core.Bool.{Bool, true, false, ◌&&◌, cond}
 use mathlib.Core.List.{List, [], ◌∷◌, ◌++◌}
 use lib.ListN.{drop, get_or, length, length-append, get_or-append, take}
-use lib.Seq.{drop-drop, get_or_at, take-add, take-length}
+use lib.Seq.{drop-drop, ext_get_or, get_or_at, take-add, take-length}
 use Rattle.park_format.specs.Park.{list_of, select}
 use Rattle.park_format.specs.Rules.{is_empty}
 use Rattle.park_format.specs.Accepted.{Every}
@@ -33,6 +33,13 @@ module _ {ℓ} {A : Type ℓ} where
   pub list_of_next : (f : ℕ → A) (n : ℕ) → list_of f (n + 1) ≡ list_of f n ++ (f n ∷ [])
   unfolding list_of
   list_of_next f n = rw add-one
+
+  -- a list is that of its own values
+  pub list_of_its : (d : A) (xs : List A) → list_of (λ (i : ℕ). get_or xs i d) (length xs) ≡ xs
+  list_of_its d xs =
+      let its = λ (i : ℕ). get_or xs i d in
+      ext_get_or d (list_of its (length xs)) xs (length-list_of its (length xs))
+      (λ i h. get_or-list_of its (length xs) d i (rw (length-list_of its (length xs)) at h))
 
   pub select-append : (test : A → Bool) (xs ys : List A) → select test (xs ++ ys) ≡ select test xs ++ select test ys
   unfolding select

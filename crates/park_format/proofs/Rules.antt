@@ -11,10 +11,11 @@ use mathlib.Core.Bool.{Bool, true, false}
 use mathlib.Core.List.{List, [], ◌∷◌, ◌++◌, append_assoc, append-nil}
 use mathlib.Core.Option.{Option, none, some}
 use lib.Dec.{eqb, ltb}
-use lib.ListN.{get_or, length}
-use borrow.Author.Tests.{eq-eqb, eqb-false, ltb-false, ne_eqb}
+use lib.ListN.{drop, drop_of_length-le, get_or, length}
+use lib.Seq.{drop-cons}
+use borrow.Author.Tests.{eqb-false, ltb-false}
 use Rattle.park_format.specs.Park.{list_of}
-use Rattle.park_format.specs.Rules.{Row, first_broken, each, refusal_at, zero_or_above}
+use Rattle.park_format.specs.Rules.{Row, first_broken, each, zero_or_above}
 use Rattle.park_format.specs.Rules.Row.{rule}
 use Rattle.park_format.proofs.Tests.{or-false}
 use Rattle.park_format.proofs.Lists.{length-list_of}
@@ -22,13 +23,6 @@ use Rattle.park_format.proofs.Lists.{length-list_of}
 -- two refusals that are alike
 pub same_refusal : {q r : ℕ × ℕ} → some q ≡ some r → q ≡ r
 same_refusal e = cc
-
--- a number that is not 0 refuses, and 0 does not
-pub refuses_at : (number place : ℕ) → (number ≡ 0 → ⊥) → refusal_at number place ≡ some (number, place)
-refuses_at number place h = rw (ne_eqb number 0 h)
-
-pub passes_at : (number place : ℕ) → number ≡ 0 → refusal_at number place ≡ none
-passes_at number place h = rw (eq-eqb number 0 h)
 
 -- the rows of a list before the rest are passed: what is broken first is in the rest
 pub record After (rows rest : List Row) : Type 0 where
@@ -88,6 +82,29 @@ module _ {ℓ} {A : Type ℓ} (g : ℕ → A → List Row) where
       ⊎_elim (λ here. at 0 (omega arith) (rw add-zero here))
       (λ later. each_at d (suc k) xs later (λ i inside here. at (suc i) (omega arith) (rw (add-suc k i, sym (suc-add k i)) here)))
       (first_part (g k x) (each g (suc k) xs) e)
+
+  -- the records of a list from the n-th on, counted from 0: what is broken first among them
+  module _ (d : A) (xs : List A) where
+    abbrev pub rest_from : ℕ → Option (ℕ × ℕ)
+    rest_from n = first_broken (each g (suc n) (drop n xs))
+
+    rest_next : (n : ℕ) → n < length xs → each g (suc n) (drop n xs) ≡ g (suc n) (get_or xs n d) ++ each g (suc (suc n)) (drop (suc n) xs)
+    unfolding each
+    rest_next n inside = rw (drop-cons xs n d inside) refl
+
+    -- that record breaks no rule, or it refuses
+    pub rest_turn : (n : ℕ) {x : A} → n < length xs → x ≡ get_or xs n d → none ≡ first_broken (g (n + 1) x) → rest_from (n + 1) ≡ rest_from n
+    rest_turn n {x} inside read kept =
+        rw add-one (sym (ap first_broken (rest_next n inside) ∙ first_append (g (suc n) (get_or xs n d)) _ (rw (← read, ← (add-one n)) (sym kept))))
+
+    pub rest_refused : (n : ℕ) {x : A} {r : ℕ × ℕ} → n < length xs → x ≡ get_or xs n d → some r ≡ first_broken (g (n + 1) x) → some r ≡ rest_from n
+    rest_refused n {x} inside read broken =
+        sym (ap first_broken (rest_next n inside) ∙ first_stays (g (suc n) (get_or xs n d)) _ (rw (← read, ← (add-one n)) (sym broken)))
+
+    -- after the last there is none
+    pub rest_none : (n : ℕ) → length xs ≤ n → none ≡ rest_from n
+    unfolding each first_broken
+    rest_none n all = rw (drop_of_length-le xs all) refl
 
   -- the rules of the first n records of a file, read by f
   module _ (f : ℕ → A) where

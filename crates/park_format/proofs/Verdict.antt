@@ -9,10 +9,11 @@ use mathlib.Core.Bool.{Bool, true, false, cond, not, ◌&&◌, ◌||◌}
 use mathlib.Core.List.{List, [], ◌∷◌, ◌++◌}
 use mathlib.Core.Option.{Option, none, some}
 use lib.Dec.{eqb, ltb}
-use lib.ListN.{length}
+use lib.ListN.{get_or, length}
 use borrow.Author.Tests.{lt-ltb, le-ltb, ltb-true, ltb-false, not-true, not-false}
-use Rattle.park_format.specs.Park.{generator_of, header_of, inputs, line_of, list_of, Park, park_of, select, site_of}
-use Rattle.park_format.specs.Rules.{Row, first_broken, header_rules, site_rules, line_rules, generator_rules, input_rules, each, file_rules, has_wrong_length, rules_of, rules_with, refusal, is_empty, size_of}
+use Rattle.park_format.specs.Park.{header_of, inputs, list_of, no_site, Park, park_of, select}
+use Rattle.park_format.specs.Rules.{Row, first_broken, header_rules, site_rules, line_rules, generator_rules, input_rules, each, file_rules, has_wrong_length, rules_of, rules_with, refusal, is_empty, KeepsRules, size_of}
+use Rattle.park_format.specs.Inner.Recorded.{Recorded, record_rules}
 use Rattle.park_format.specs.Inner.Set.{has, Lowest, IsFed}
 use Rattle.park_format.specs.Inner.Sized.{Sized}
 use Rattle.park_format.specs.Limits.{most_sites}
@@ -20,71 +21,56 @@ use Rattle.park_format.specs.Format.{shortest_header}
 use Rattle.park_format.specs.declared.header.Header.{Header}
 use Rattle.park_format.specs.declared.site.Site.{Site}
 use Rattle.park_format.specs.declared.line.Line.{Line}
-use Rattle.park_format.specs.declared.generator.Generator.{Generator}
-use Rattle.park_format.proofs.Accepted.{kept_header, kept_sized}
-use Rattle.park_format.proofs.Lists.{select-append, is_empty-append}
+use Rattle.park_format.proofs.Accepted.{kept_header, kept_sized, right_length}
+use Rattle.park_format.proofs.Lists.{select-append, is_empty-append, list_of_its}
+use Rattle.park_format.proofs.Sizes.{header_sizes}
 use Rattle.park_format.proofs.Rules.{first_append, first_stays, up_to, up_to_zero, up_to_next, up_to_stays}
 
--- a park whose records are read one by one, from a file or from elsewhere, and whose header is there to be read
-module _ (wrongLength : Bool) (h : Header) (site : ℕ → Site) (line : ℕ → Line) (generator : ℕ → Generator) where
-  abbrev park : Park
-  park = record { header = h; sites = list_of site h.sites; lines = list_of line h.lines; generators = list_of generator h.generators }
-
-  -- the parts of its table
-  abbrev header_part : List Row
-  header_part = header_rules wrongLength h
-
+-- the records of a park, looked at part by part: its sites, its lines, its generators, and the park
+module _ (p : Park) where
   abbrev sites_part : List Row
-  sites_part = each site_rules 1 park.sites
+  sites_part = each site_rules 1 p.sites
 
   abbrev lines_part : List Row
-  lines_part = each (line_rules h) 1 park.lines
+  lines_part = each (line_rules p.header) 1 p.lines
 
   abbrev generators_part : List Row
-  generators_part = each (generator_rules h park.sites) 1 park.generators
+  generators_part = each (generator_rules p.header p.sites) 1 p.generators
 
   abbrev inputs_part : List Row
-  inputs_part = each (input_rules park.lines) 1 park.sites
+  inputs_part = each (input_rules p.lines) 1 p.sites
 
-  -- what is refused is the first broken row
-  abbrev pub Table : Option (ℕ × ℕ) → Type 0
-  Table refused = refused ≡ first_broken (rules_of false wrongLength park)
+  pub sites_refuse : {r : ℕ × ℕ} → some r ≡ first_broken sites_part → some r ≡ first_broken (record_rules p)
+  sites_refuse e = sym (first_stays sites_part _ (sym e))
 
-  parts : first_broken (rules_of false wrongLength park) ≡ first_broken (header_part ++ (sites_part ++ (lines_part ++ (generators_part ++ inputs_part))))
-  unfolding rules_with first_broken
-  parts = refl
+  module _ (sites : none ≡ first_broken sites_part) where
+    after_sites : first_broken (record_rules p) ≡ first_broken (lines_part ++ (generators_part ++ inputs_part))
+    after_sites = first_append sites_part _ (sym sites)
 
-  pub header_refused : {refused : Option (ℕ × ℕ)} {r : ℕ × ℕ} → Table refused → some r ≡ first_broken header_part → some r ≡ refused
-  header_refused table e = sym (table ∙ parts ∙ first_stays header_part _ (sym e))
+    pub lines_refuse : {r : ℕ × ℕ} → some r ≡ first_broken lines_part → some r ≡ first_broken (record_rules p)
+    lines_refuse e = sym (after_sites ∙ first_stays lines_part _ (sym e))
 
-  -- a header that keeps its rules
-  pub record Headed (refused : Option (ℕ × ℕ)) : Type 0 where
-    pub table : Table refused
-    pub sound : none ≡ first_broken header_part
+    module _ (lines : none ≡ first_broken lines_part) where
+      after_lines : first_broken (record_rules p) ≡ first_broken (generators_part ++ inputs_part)
+      after_lines = after_sites ∙ first_append lines_part _ (sym lines)
 
-  module _ {refused : Option (ℕ × ℕ)} (head : Headed refused) where
-    after_header : refused ≡ first_broken (sites_part ++ (lines_part ++ (generators_part ++ inputs_part)))
-    after_header = head.table ∙ parts ∙ first_append header_part _ (sym head.sound)
+      pub generators_refuse : {r : ℕ × ℕ} → some r ≡ first_broken generators_part → some r ≡ first_broken (record_rules p)
+      generators_refuse e = sym (after_lines ∙ first_stays generators_part _ (sym e))
 
-    pub sites_refused : {r : ℕ × ℕ} → some r ≡ first_broken sites_part → some r ≡ refused
-    sites_refused e = sym (after_header ∙ first_stays sites_part _ (sym e))
+      pub inputs_refuse : none ≡ first_broken generators_part → first_broken inputs_part ≡ first_broken (record_rules p)
+      inputs_refuse generators = sym (after_lines ∙ first_append generators_part _ (sym generators))
 
-    module _ (sites : none ≡ first_broken sites_part) where
-      after_sites : refused ≡ first_broken (lines_part ++ (generators_part ++ inputs_part))
-      after_sites = after_header ∙ first_append sites_part _ (sym sites)
+  -- the whole table: the rules of the header, and then those of the records
+  module _ (wrongLength : Bool) where
+    parts : first_broken (rules_of false wrongLength p) ≡ first_broken (header_rules wrongLength p.header ++ record_rules p)
+    unfolding rules_with first_broken
+    parts = refl
 
-      pub lines_refused : {r : ℕ × ℕ} → some r ≡ first_broken lines_part → some r ≡ refused
-      lines_refused e = sym (after_sites ∙ first_stays lines_part _ (sym e))
+    pub header_refuses : {r : ℕ × ℕ} → some r ≡ first_broken (header_rules wrongLength p.header) → some r ≡ first_broken (rules_of false wrongLength p)
+    header_refuses e = sym (parts ∙ first_stays (header_rules wrongLength p.header) _ (sym e))
 
-      module _ (lines : none ≡ first_broken lines_part) where
-        after_lines : refused ≡ first_broken (generators_part ++ inputs_part)
-        after_lines = after_sites ∙ first_append lines_part _ (sym lines)
-
-        pub generators_refused : {r : ℕ × ℕ} → some r ≡ first_broken generators_part → some r ≡ refused
-        generators_refused e = sym (after_lines ∙ first_stays generators_part _ (sym e))
-
-        pub inputs_decide : none ≡ first_broken generators_part → first_broken inputs_part ≡ refused
-        inputs_decide generators = sym (after_lines ∙ first_append generators_part _ (sym generators))
+    pub records_decide : none ≡ first_broken (header_rules wrongLength p.header) → first_broken (record_rules p) ≡ first_broken (rules_of false wrongLength p)
+    records_decide e = sym (parts ∙ first_append (header_rules wrongLength p.header) _ (sym e))
 
 -- a file
 pub too_short : (file : List ℕ) → length file < shortest_header → some (1, 0) ≡ refusal file
@@ -92,15 +78,38 @@ unfolding refusal file_rules rules_with first_broken
 too_short file h = rw (lt-ltb (length file) shortest_header h)
 
 module _ (file : List ℕ) (h : Header) (read : h ≡ header_of file) where
-  pub file_table : shortest_header ≤ length file → Table (has_wrong_length file) h (site_of h file) (line_of h file) (generator_of h file) (refusal file)
-  unfolding refusal file_rules park_of
-  file_table long = rw (le-ltb (length file) shortest_header long, read)
+  pub file_table : shortest_header ≤ length file → refusal file ≡ first_broken (rules_of false (has_wrong_length file) (park_of file))
+  unfolding refusal file_rules
+  file_table long = rw (le-ltb (length file) shortest_header long)
+
+  -- refused by a rule of its header
+  pub file_refuses : {r : ℕ × ℕ} → shortest_header ≤ length file → some r ≡ first_broken (header_rules (has_wrong_length file) h) → some r ≡ refusal file
+  unfolding park_of
+  file_refuses long e =
+      header_refuses (park_of file) (has_wrong_length file) (e ∙ ap (λ (x : Header). first_broken (header_rules (has_wrong_length file) x)) read)
+      ∙ sym (file_table long)
 
   -- with a header that keeps its rules it has room for what the header says
   pub sized : none ≡ first_broken (header_rules (has_wrong_length file) h) → Sized h (length file)
   sized sound =
       kept_sized
       (kept_header (length file) h (ap (λ (x : Header). first_broken (header_rules (not (eqb (length file) (size_of x))) h)) read ∙ sym sound))
+
+  -- and then its records decide
+  module _ (sound : first_broken (header_rules (has_wrong_length file) h) ≡ none) where
+    same_rules : none ≡ first_broken (header_rules (has_wrong_length file) (park_of file).header)
+    unfolding park_of
+    same_rules = sym sound ∙ ap (λ (x : Header). first_broken (header_rules (has_wrong_length file) x)) read
+
+    pub file_decides : first_broken (record_rules (park_of file)) ≡ refusal file
+    file_decides =
+        let room = sized (sym sound) in
+        records_decide (park_of file) (has_wrong_length file) same_rules ∙ sym (file_table (omega (arith, room.size, header_sizes h.version)))
+
+    pub file_kept : none ≡ first_broken (record_rules (park_of file)) → KeepsRules (park_of file)
+    file_kept records =
+        let right = right_length (has_wrong_length file) (park_of file).header (sym same_rules) in
+        sym (records ∙ records_decide (park_of file) false (same_rules ∙ ap (λ (b : Bool). first_broken (header_rules b (park_of file).header)) right))
 
 -- one line more, and the site that it goes to
 pub fed_more : (set more : ℕ) (l : Line) (lines : List Line) → IsFed set lines → ((j : ℕ) → has more j ≡ (has set j || eqb l.to (suc j))) → IsFed more (lines ++ (l ∷ []))
@@ -137,11 +146,17 @@ module _ (reads : ℕ → Site) (lines : List Line) (set low : ℕ) (fed : IsFed
       (up_to_next (input_rules lines) reads low (unfed_below low (le_refl low))
       ∙ row low false (lowest.here h))
 
-  pub lowest_unfed : (s : ℕ) → s ≤ most_sites → cond (ltb low s) (some (19, low + 1)) none ≡ first_broken (each (input_rules lines) 1 (list_of reads s))
-  lowest_unfed s h = by (ltb low s) refl
+  unfed_among : (s : ℕ) → s ≤ most_sites → cond (ltb low s) (some (19, low + 1)) none ≡ first_broken (each (input_rules lines) 1 (list_of reads s))
+  unfed_among s h = by (ltb low s) refl
     where
       by : (b : Bool) → ltb low s ≡ b → cond b (some (19, low + 1)) none ≡ unfed s
       by true e =
           let l = ltb-true low s e in
           sym (up_to_stays (input_rules lines) reads (low + 1) s (omega arith) (unfed_here (omega arith)))
       by false e = sym (unfed_below s (ltb-false low s e))
+
+pub lowest_unfed : (p : Park) → Recorded p → (set low : ℕ) → IsFed set p.lines → Lowest set low → cond (ltb low p.header.sites) (some (19, low + 1)) none ≡ first_broken (each (input_rules p.lines) 1 p.sites)
+lowest_unfed p recorded set low fed lowest =
+    let reads = λ (i : ℕ). get_or p.sites i no_site in
+    unfed_among reads p.lines set low fed lowest p.header.sites recorded.few
+    ∙ ap (λ (sites : List Site). first_broken (each (input_rules p.lines) 1 sites)) (rw (← recorded.sites) (list_of_its no_site p.sites))

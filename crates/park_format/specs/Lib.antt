@@ -3,6 +3,7 @@ pub mod Format
 pub mod Park
 pub mod Rules
 pub mod Call
+pub mod Opened
 pub mod Cut
 pub mod Ends
 pub mod Accepted

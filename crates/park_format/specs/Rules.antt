@@ -2,7 +2,7 @@
 -- it puts first.
 -- A file is accepted when no row is broken. No other condition refuses.
 -- Assumes nothing.
-use Rattle.std.specs.Prelude.{ℕ, suc, ◌-◌, ◌/◌, ◌%◌, ◌≤◌, ◌⊎◌, ◌≡◌, Bool, true, false, cond, not, ◌&&◌, ◌||◌, List, [], ◌∷◌, ◌++◌, ltb, leb, eqb, length, get_or}
+use Rattle.std.specs.Prelude.{ℕ, suc, ◌-◌, ◌/◌, ◌%◌, ◌≤◌, ◌⊎◌, ◌≡◌, Bool, true, false, cond, not, ◌&&◌, ◌||◌, List, [], ◌∷◌, ◌++◌, ltb, leb, eqb, length, get_or, Result, Ok, Err}
 use Rattle.std.proofs.Math.Option.{Option, none, some}
 use Rattle.park_format.specs.Format.{file_size, shortest_header}
 use Rattle.park_format.specs.Limits.{latest_version, months, most_discount, most_eerp, most_flag, most_generators, most_installed, most_lines, most_mark, most_power, most_price, most_reading, most_sites}
@@ -11,8 +11,9 @@ use Rattle.park_format.specs.declared.header.Header.{Header}
 use Rattle.park_format.specs.declared.site.Site.{Site}
 use Rattle.park_format.specs.declared.line.Line.{Line}
 use Rattle.park_format.specs.declared.generator.Generator.{Generator}
-use Rattle.park_format.specs.declared.rule.Verdict.{Verdict}
-use Rattle.park_format.specs.declared.rule.Verdict.TheVariants.{Accepted, Refused}
+use Rattle.park_format.specs.declared.rule.Refusal.{Refusal}
+use Rattle.park_format.specs.declared.rule.Rule.{Rule}
+use Rattle.park_format.specs.declared.rule.Rule.TheVariants as rules
 
 -- a row of the table: the rule's number, the place, and whether the rule is broken there. The place is the site, the line or the generator,
 -- counted from 1, for 10 to 19, 23, 24, 26 and 27, else 0
@@ -28,14 +29,45 @@ unfoldable pub first_broken : List Row → Option (ℕ × ℕ)
 first_broken [] = none
 first_broken (rule number place broken ∷ rows) = cond broken (some (number, place)) (first_broken rows)
 
--- a rule's number, 0 for none, with a place
-abbrev pub refusal_at : ℕ → ℕ → Option (ℕ × ℕ)
-refusal_at number place = cond (eqb number 0) none (some (number, place))
+-- the number by which a rule is told
+abbrev pub rule_number : Rule → ℕ
+rule_number rules.TooShort = 1
+rule_number rules.Mark = 2
+rule_number rules.Version = 3
+rule_number rules.Month = 4
+rule_number rules.Sites = 5
+rule_number rules.Lines = 6
+rule_number rules.Price = 7
+rule_number rules.Hours = 8
+rule_number rules.Generators = 25
+rule_number rules.Length = 9
+rule_number rules.Power = 10
+rule_number rules.Flag = 11
+rule_number rules.Devices = 12
+rule_number rules.Discount = 13
+rule_number rules.EndAbove = 14
+rule_number rules.BothNetwork = 23
+rule_number rules.Backwards = 24
+rule_number rules.Meters = 15
+rule_number rules.Eerp = 16
+rule_number rules.ReadingAbove = 17
+rule_number rules.Readings = 18
+rule_number rules.GeneratorSite = 26
+rule_number rules.GeneratorOutput = 27
+rule_number rules.Unfed = 19
+rule_number rules.NoSuchSite = 20
+rule_number rules.ShortList = 21
+rule_number rules.ShortBuffer = 22
 
--- number and place of each case of the reply; `none` is accepted
-abbrev pub refusal_of : Verdict → Option (ℕ × ℕ)
-refusal_of Accepted = none
-refusal_of (Refused r) = some (r.number, r.place)
+-- a broken rule, if there is one, told at a place
+abbrev pub broken_at : {A : Type 0} → Result A Rule → ℕ → Option (ℕ × ℕ)
+broken_at (Ok kept) place = none
+broken_at (Err broken) place = some (rule_number broken, place)
+
+-- number and place of a refusal; `none` is accepted
+abbrev pub refusal_of : {A : Type 0} → Result A Refusal → Option (ℕ × ℕ)
+refusal_of (Ok accepted) = none
+refusal_of (Err r) = some (rule_number r.rule, r.place)
 
 -- 8: most hours a month may state, January to December
 abbrev pub month_hours : List ℕ
@@ -199,6 +231,10 @@ rules_with ofLine short wrongLength p =
 -- with the present rows of a line
 abbrev pub rules_of : Bool → Bool → Park → List Row
 rules_of short wrongLength p = rules_with line_rules short wrongLength p
+
+-- a park that keeps the rules
+abbrev pub KeepsRules : Park → Type 0
+KeepsRules p = first_broken (rules_of false false p) ≡ none
 
 -- 1 and 9, of a file: 1 asks for the 14 bytes of version 1
 abbrev pub is_short : List ℕ → Bool

@@ -4,14 +4,7 @@ ghost use Rattle.park_format.specs.Inner.Set.{has, Lowest, Unfed};
 ghost use Rattle.park_format.specs.Limits.{most_sites};
 ghost use Rattle.park_format.specs.Rules.{refusal_of};
 
-use crate::rule::{Refusal, Verdict};
-
-// What a walk over the lines finds: a broken rule, or the sites that have an input.
-#[derive(Clone, Copy)]
-pub enum Walked {
-    Refused(Refusal),
-    Fed(u16),
-}
+use crate::rule::{Refusal, Rule};
 
 // The set with the site that a line goes to; the network, 0, adds nothing.
 pub fn with(fed: u16, to: u32) -> u16
@@ -25,20 +18,16 @@ pub fn with(fed: u16, to: u32) -> u16
 fn before_missing(fed: u16) -> u32
     ensures { Lowest fed result }
 {
-    let missing = !fed;
-    u16::trailing_zeros(missing)
+    (!fed).trailing_zeros()
 }
 
 // Rule 19 in a park of as many sites, at most 16, by the set of those with an input line.
-pub fn check(fed: u16, sites: u32) -> Verdict
+pub fn check(fed: u16, sites: u32) -> Result<(), Refusal>
     ensures { Unfed fed sites (refusal_of result) }
 {
     let before = before_missing(fed);
     if before < sites {
-        return Verdict::Refused(Refusal {
-            number: 19,
-            place: before + 1,
-        });
+        return Err(Rule::Unfed.at(before + 1));
     }
-    Verdict::Accepted
+    Ok(())
 }

@@ -5,7 +5,7 @@ ghost use Rattle.park_format.specs.Park.{generator_at};
 
 use crate::number;
 
-#[derive(Clone, Copy)]
+#[derive(Clone, Copy, Debug, PartialEq, Eq)]
 pub struct Generator {
     // The site that it belongs to.
     pub site: u32,
@@ -24,14 +24,14 @@ impl Generator {
     pub const MOST_OUTPUT: u32 = 10_000_000;
 
     // The record that starts at a position, all of it within the file.
-    #[tactic(auto, using(crate::proofs::Records::generator_at_lem))]
+    #[tactic(auto, using(crate::proofs::Fields::generator_at_lem))]
     pub fn read(file: &[u8], at: usize) -> Generator
         requires { at + generator_size ≤ length file.now }
         ensures { result ≡ generator_at file.now at }
     {
         Generator {
-            site: number::one(file, at),
-            output: number::four(file, at + Generator::AT_OUTPUT),
+            site: number::read::<1>(file, at),
+            output: number::read::<4>(file, at + Generator::AT_OUTPUT),
         }
     }
 }

@@ -1,17 +1,20 @@
 // The header of a park file, and the rules of header and length.
 ghost use Rattle.std.specs.Prelude.{◌≡◌, cond, ◌≤◌, eqb, length};
-ghost use Rattle.park_format.specs.Format.{header_size, number_at, shortest_header};
+ghost use Rattle.park_format.specs.Format.{generator_start, header_size, line_start, number_at, shortest_header, site_start};
 ghost use Rattle.park_format.specs.Inner.Stored.{Stored};
+ghost use Rattle.park_format.specs.Limits.{most_generators, most_lines, most_sites};
 ghost use Rattle.park_format.specs.Made.{header_bytes};
 ghost use Rattle.park_format.specs.Park.{header_of};
-ghost use Rattle.park_format.specs.Rules.{refusal_at, first_broken, header_rules, most_hours, size_of};
+ghost use Rattle.park_format.specs.Inner.Hours.{hours_of};
+ghost use Rattle.park_format.specs.Rules.{broken_at, first_broken, header_rules, size_of};
 
 use crate::generator::Generator;
 use crate::line::Line;
+use crate::rule::Rule;
 use crate::site::Site;
 use crate::{number, rule};
 
-#[derive(Clone, Copy)]
+#[derive(Clone, Copy, Debug, PartialEq, Eq)]
 pub struct Header {
     // The three letters of the file's mark, as a number.
     pub mark: u32,
@@ -31,15 +34,15 @@ pub struct Header {
 // Most hours a month may state, January to December.
 pub const MONTH_HOURS: [u16; 12] = [744, 696, 743, 720, 744, 720, 744, 744, 720, 745, 720, 744];
 
-// The most hours that a month may state; 0 for a number that is no month.
+// The most hours that a month may state, if it is a month.
 #[tactic(auto, unfolding(crate::specs::Rules::most_hours))]
-fn most_hours(month: u32) -> u32
-    ensures { result ≡ most_hours month }
+fn most_hours(month: u32) -> Option<u32>
+    ensures { result ≡ hours_of month }
 {
     if rule::zero_or_above(Header::MONTHS, month) {
-        return 0;
+        return None;
     }
-    MONTH_HOURS[(month - 1) as usize] as u32
+    Some(u32::from(MONTH_HOURS[month as usize - 1]))
 }
 
 impl Header {
@@ -68,7 +71,9 @@ impl Header {
 
     pub const FIRST_VERSION: u32 = 1;
 
-    pub const LATEST_VERSION: u32 = 2;
+    pub const SECOND_VERSION: u32 = 2;
+
+    pub const LATEST_VERSION: u32 = Header::SECOND_VERSION;
 
     // Limits of rules 4 to 7 and 25.
     pub const MONTHS: u32 = 12;
@@ -104,24 +109,24 @@ impl Header {
         if file.len() < Header::LATER_LEN {
             return 0;
         }
-        number::one(file, Header::AT_GENERATORS)
+        number::read::<1>(file, Header::AT_GENERATORS)
     }
 
     // The header of a file that is long enough for one of version 1.
-    #[tactic(auto, using(crate::proofs::Records::header_of_lem))]
+    #[tactic(auto, using(crate::proofs::Fields::header_of_lem))]
     pub fn read(file: &[u8]) -> Header
         requires { shortest_header ≤ length file.now }
         ensures { result ≡ header_of file.now }
     {
-        let version = number::two(file, Header::AT_VERSION);
+        let version = number::read::<2>(file, Header::AT_VERSION);
         Header {
-            mark: number::three(file, 0),
+            mark: number::read::<3>(file, 0),
             version,
-            month: number::one(file, Header::AT_MONTH),
-            sites: number::one(file, Header::AT_SITES),
-            lines: number::one(file, Header::AT_LINES),
-            price: number::four(file, Header::AT_PRICE),
-            hours: number::two(file, Header::AT_HOURS),
+            month: number::read::<1>(file, Header::AT_MONTH),
+            sites: number::read::<1>(file, Header::AT_SITES),
+            lines: number::read::<1>(file, Header::AT_LINES),
+            price: number::read::<4>(file, Header::AT_PRICE),
+            hours: number::read::<2>(file, Header::AT_HOURS),
             generators: Header::generators_of(file, version),
         }
     }
@@ -132,13 +137,41 @@ impl Header {
         requires { (self.version ≡ 1) × (shortest_header ≤ length file.old) }
         ensures { Stored (header_bytes self) 0 file.old file.new }
     {
-        number::write_three(file, 0, self.mark);
-        number::write_two(file, Header::AT_VERSION, self.version);
-        number::write_one(file, Header::AT_MONTH, self.month);
-        number::write_one(file, Header::AT_SITES, self.sites);
-        number::write_one(file, Header::AT_LINES, self.lines);
-        number::write_four(file, Header::AT_PRICE, self.price);
-        number::write_two(file, Header::AT_HOURS, self.hours);
+        number::write::<3>(file, 0, self.mark);
+        number::write::<2>(file, Header::AT_VERSION, self.version);
+        number::write::<1>(file, Header::AT_MONTH, self.month);
+        number::write::<1>(file, Header::AT_SITES, self.sites);
+        number::write::<1>(file, Header::AT_LINES, self.lines);
+        number::write::<4>(file, Header::AT_PRICE, self.price);
+        number::write::<2>(file, Header::AT_HOURS, self.hours);
+    }
+
+    // Where site i begins, counted from 0, in a file with this header.
+    pub fn site_start(self, i: u32) -> usize
+        requires { i ≤ most_sites }
+        ensures start { result ≡ site_start self.version i }
+        ensures most { result ≤ 200 }
+    {
+        Header::len(self.version) + Site::LEN * i as usize
+    }
+
+    // Where line i begins.
+    pub fn line_start(self, i: u32) -> usize
+        requires { (self.sites ≤ most_sites) × (i ≤ most_lines) }
+        ensures start { result ≡ line_start self.version self.sites i }
+        ensures most { result ≤ 1800 }
+    {
+        self.site_start(self.sites) + Line::bytes(self.version, i as usize)
+    }
+
+    // Where generator i begins.
+    pub fn generator_start(self, i: u32) -> usize
+        requires sites { self.sites ≤ most_sites }
+        requires lines { self.lines ≤ most_lines }
+        requires there { i ≤ most_generators }
+        ensures { result ≡ generator_start self.version self.sites self.lines i }
+    {
+        self.line_start(self.lines) + Generator::LEN * i as usize
     }
 
     // The length of a file with as many sites, lines and generators.
@@ -151,40 +184,40 @@ impl Header {
             + Generator::LEN * (self.generators as usize)
     }
 
-    // The number of the first broken rule of header and length, 2 to 8, 25 and 9; 0 if none is broken.
-    #[tactic(auto, unfolding(crate::specs::Rules::header_rules, crate::specs::Rules::first_broken))]
-    pub fn broken(self, wrong_length: bool) -> u32
-        ensures { refusal_at result 0 ≡ first_broken (header_rules wrong_length self) }
+    // The first broken rule of header and length, 2 to 8, 25 and 9, if one is broken.
+    #[tactic(auto, unfolding(crate::specs::Rules::header_rules, crate::specs::Rules::first_broken, crate::specs::Rules::most_hours))]
+    pub fn check(self, wrong_length: bool) -> Result<(), Rule>
+        ensures { broken_at result 0 ≡ first_broken (header_rules wrong_length self) }
     {
         // Looked up before the first test, so that the compiler does not take it for a rare case.
         let most_hours = most_hours(self.month);
         if self.mark != Header::MARK {
-            return 2;
+            return Err(Rule::Mark);
         }
         if rule::zero_or_above(Header::LATEST_VERSION, self.version) {
-            return 3;
+            return Err(Rule::Version);
         }
-        if rule::zero_or_above(Header::MONTHS, self.month) {
-            return 4;
-        }
+        let Some(most_hours) = most_hours else {
+            return Err(Rule::Month);
+        };
         if rule::zero_or_above(Header::MOST_SITES, self.sites) {
-            return 5;
+            return Err(Rule::Sites);
         }
         if rule::zero_or_above(Header::MOST_LINES, self.lines) {
-            return 6;
+            return Err(Rule::Lines);
         }
         if rule::zero_or_above(Header::MOST_PRICE, self.price) {
-            return 7;
+            return Err(Rule::Price);
         }
         if most_hours < self.hours {
-            return 8;
+            return Err(Rule::Hours);
         }
         if Header::MOST_GENERATORS < self.generators {
-            return 25;
+            return Err(Rule::Generators);
         }
         if wrong_length {
-            return 9;
+            return Err(Rule::Length);
         }
-        0
+        Ok(())
     }
 }

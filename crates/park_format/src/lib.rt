@@ -5,10 +5,13 @@ pub mod fed;
 pub mod file;
 pub mod generator;
 pub mod header;
+pub mod laid;
 pub mod line;
 pub mod meter;
 mod number;
+pub mod opening;
+pub mod records;
 pub mod rule;
 pub mod site;
 
-pub use file::check;
+pub use opening::{check, open};

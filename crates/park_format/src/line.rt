@@ -4,12 +4,15 @@ ghost use Rattle.park_format.specs.Format.{line_size, number_at, shortest_line};
 ghost use Rattle.park_format.specs.Inner.Stored.{Stored};
 ghost use Rattle.park_format.specs.Made.{line_bytes};
 ghost use Rattle.park_format.specs.Park.{line_at};
-ghost use Rattle.park_format.specs.Rules.{refusal_at, first_broken, line_rules, measures_reactive, measures_generated, measures_night, measures_produced, backwards, both_network, end_above, wrong_meters, reading_above, wrong_readings};
+ghost use Rattle.park_format.specs.Inner.Meters.{measures};
+ghost use Rattle.park_format.specs.Rules.{broken_at, first_broken, line_rules, backwards, both_network, end_above, wrong_meters, reading_above, wrong_readings};
 
 use crate::header::Header;
-use crate::{meter, number, rule};
+use crate::meter::Meter;
+use crate::rule::Rule;
+use crate::{number, rule};
 
-#[derive(Clone, Copy)]
+#[derive(Clone, Copy, Debug, PartialEq, Eq)]
 pub struct Line {
     // The site that the line comes from, and the one it goes to; 0 is the network.
     pub from: u32,
@@ -77,25 +80,25 @@ impl Line {
         if version == Header::FIRST_VERSION {
             return 0;
         }
-        number::four(file, at + Line::AT_PRODUCED)
+        number::read::<4>(file, at + Line::AT_PRODUCED)
     }
 
     // The record that starts at a position, all of it within the file.
-    #[tactic(auto, using(crate::proofs::Records::line_at_lem))]
+    #[tactic(auto, using(crate::proofs::Fields::line_at_lem))]
     pub fn read(file: &[u8], version: u32, at: usize) -> Line
         requires within { at + line_size version ≤ length file.now }
         requires first { at + shortest_line ≤ length file.now }
         ensures { result ≡ line_at version file.now at }
     {
         Line {
-            from: number::one(file, at),
-            to: number::one(file, at + Line::AT_TO),
-            meters: number::one(file, at + Line::AT_METERS),
-            eerp: number::two(file, at + Line::AT_EERP),
-            active: number::four(file, at + Line::AT_ACTIVE),
-            reactive: number::four(file, at + Line::AT_REACTIVE),
-            generated: number::four(file, at + Line::AT_GENERATED),
-            night: number::four(file, at + Line::AT_NIGHT),
+            from: number::read::<1>(file, at),
+            to: number::read::<1>(file, at + Line::AT_TO),
+            meters: number::read::<1>(file, at + Line::AT_METERS),
+            eerp: number::read::<2>(file, at + Line::AT_EERP),
+            active: number::read::<4>(file, at + Line::AT_ACTIVE),
+            reactive: number::read::<4>(file, at + Line::AT_REACTIVE),
+            generated: number::read::<4>(file, at + Line::AT_GENERATED),
+            night: number::read::<4>(file, at + Line::AT_NIGHT),
             produced: Line::produced_at(file, version, at),
         }
     }
@@ -106,42 +109,21 @@ impl Line {
         requires { at + shortest_line ≤ length file.old }
         ensures { Stored (line_bytes 1 self) at file.old file.new }
     {
-        number::write_one(file, at, self.from);
-        number::write_one(file, at + Line::AT_TO, self.to);
-        number::write_one(file, at + Line::AT_METERS, self.meters);
-        number::write_two(file, at + Line::AT_EERP, self.eerp);
-        number::write_four(file, at + Line::AT_ACTIVE, self.active);
-        number::write_four(file, at + Line::AT_REACTIVE, self.reactive);
-        number::write_four(file, at + Line::AT_GENERATED, self.generated);
-        number::write_four(file, at + Line::AT_NIGHT, self.night);
+        number::write::<1>(file, at, self.from);
+        number::write::<1>(file, at + Line::AT_TO, self.to);
+        number::write::<1>(file, at + Line::AT_METERS, self.meters);
+        number::write::<2>(file, at + Line::AT_EERP, self.eerp);
+        number::write::<4>(file, at + Line::AT_ACTIVE, self.active);
+        number::write::<4>(file, at + Line::AT_REACTIVE, self.reactive);
+        number::write::<4>(file, at + Line::AT_GENERATED, self.generated);
+        number::write::<4>(file, at + Line::AT_NIGHT, self.night);
     }
 
-    // Whether the line has the meter of reactive consumption.
-    pub fn measures_reactive(self) -> bool
-        ensures { result ≡ measures_reactive self.meters }
+    // Whether the line has a meter.
+    pub fn measures(self, meter: Meter) -> bool
+        ensures { result ≡ measures meter self.meters }
     {
-        meter::reactive(self.meters)
-    }
-
-    // Whether the line has the meter of generation.
-    fn measures_generated(self) -> bool
-        ensures { result ≡ measures_generated self.meters }
-    {
-        meter::generated(self.meters)
-    }
-
-    // Whether the line has the meter of night-valley generation.
-    fn measures_night(self) -> bool
-        ensures { result ≡ measures_night self.meters }
-    {
-        meter::night(self.meters)
-    }
-
-    // Whether the line has the meter of active generation.
-    fn measures_produced(self) -> bool
-        ensures { result ≡ measures_produced self.meters }
-    {
-        meter::produced(self.meters)
+        meter.is_in(self.meters)
     }
 
     // Rule 14: an end is above the number of sites.
@@ -216,17 +198,17 @@ impl Line {
     fn wrong_readings(self) -> bool
         ensures { result ≡ wrong_readings self }
     {
-        let reactive = Line::unmetered(self.measures_reactive(), self.reactive);
-        let generated = Line::unmetered(self.measures_generated(), self.generated);
-        let night = Line::unmetered(self.measures_night(), self.night);
-        let produced = Line::unmetered(self.measures_produced(), self.produced);
+        let reactive = Line::unmetered(self.measures(Meter::Reactive), self.reactive);
+        let generated = Line::unmetered(self.measures(Meter::Generated), self.generated);
+        let night = Line::unmetered(self.measures(Meter::Night), self.night);
+        let produced = Line::unmetered(self.measures(Meter::Produced), self.produced);
         (reactive + generated + night + produced != 0) | (self.generated < self.night)
     }
 
-    // The number of the first rule that the line breaks in a park with that header; 0 if it breaks none.
+    // The first rule that the line breaks in a park with that header, if it breaks one.
     #[tactic(auto, unfolding(crate::specs::Rules::line_rules, crate::specs::Rules::first_broken))]
-    pub fn broken(self, header: Header) -> u32
-        ensures { (place : ℕ) → refusal_at result place ≡ first_broken (line_rules header place self) }
+    pub fn check(self, header: Header) -> Result<(), Rule>
+        ensures { (place : ℕ) → broken_at result place ≡ first_broken (line_rules header place self) }
     {
         // Every test is made before the first is asked: accepted lines differ in their marks, and a jump by the mark alone would often be
         // guessed wrongly by the processor.
@@ -238,26 +220,26 @@ impl Line {
         let reading_above = self.reading_above();
         let wrong_readings = self.wrong_readings();
         if end_above {
-            return 14;
+            return Err(Rule::EndAbove);
         }
         if both_network {
-            return 23;
+            return Err(Rule::BothNetwork);
         }
         if backwards {
-            return 24;
+            return Err(Rule::Backwards);
         }
         if wrong_meters {
-            return 15;
+            return Err(Rule::Meters);
         }
         if wrong_eerp {
-            return 16;
+            return Err(Rule::Eerp);
         }
         if reading_above {
-            return 17;
+            return Err(Rule::ReadingAbove);
         }
         if wrong_readings {
-            return 18;
+            return Err(Rule::Readings);
         }
-        0
+        Ok(())
     }
 }

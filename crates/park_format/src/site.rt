@@ -5,11 +5,12 @@ ghost use Rattle.park_format.specs.Inner.Stored.{Stored};
 ghost use Rattle.park_format.specs.Limits.{most_installed};
 ghost use Rattle.park_format.specs.Made.{site_bytes};
 ghost use Rattle.park_format.specs.Park.{site_at};
-ghost use Rattle.park_format.specs.Rules.{refusal_at, first_broken, has_devices, site_rules, wrong_devices};
+ghost use Rattle.park_format.specs.Rules.{broken_at, first_broken, has_devices, site_rules, wrong_devices};
 
+use crate::rule::Rule;
 use crate::{number, rule};
 
-#[derive(Clone, Copy)]
+#[derive(Clone, Copy, Debug, PartialEq, Eq)]
 pub struct Site {
     // Permitted power, kW.
     pub power: u32,
@@ -46,17 +47,17 @@ impl Site {
     pub const MOST_DISCOUNT: u32 = 1_000;
 
     // The record that starts at a position, all of it within the file.
-    #[tactic(auto, using(crate::proofs::Records::site_at_lem))]
+    #[tactic(auto, using(crate::proofs::Fields::site_at_lem))]
     pub fn read(file: &[u8], at: usize) -> Site
         requires { at + site_size ≤ length file.now }
         ensures { result ≡ site_at file.now at }
     {
         Site {
-            power: number::four(file, at),
-            devices: number::one(file, at + Site::AT_DEVICES),
-            compensation: number::two(file, at + Site::AT_COMPENSATION),
-            motors: number::two(file, at + Site::AT_MOTORS),
-            discount: number::two(file, at + Site::AT_DISCOUNT),
+            power: number::read::<4>(file, at),
+            devices: number::read::<1>(file, at + Site::AT_DEVICES),
+            compensation: number::read::<2>(file, at + Site::AT_COMPENSATION),
+            motors: number::read::<2>(file, at + Site::AT_MOTORS),
+            discount: number::read::<2>(file, at + Site::AT_DISCOUNT),
         }
     }
 
@@ -65,11 +66,11 @@ impl Site {
         requires { at + site_size ≤ length file.old }
         ensures { Stored (site_bytes self) at file.old file.new }
     {
-        number::write_four(file, at, self.power);
-        number::write_one(file, at + Site::AT_DEVICES, self.devices);
-        number::write_two(file, at + Site::AT_COMPENSATION, self.compensation);
-        number::write_two(file, at + Site::AT_MOTORS, self.motors);
-        number::write_two(file, at + Site::AT_DISCOUNT, self.discount);
+        number::write::<4>(file, at, self.power);
+        number::write::<1>(file, at + Site::AT_DEVICES, self.devices);
+        number::write::<2>(file, at + Site::AT_COMPENSATION, self.compensation);
+        number::write::<2>(file, at + Site::AT_MOTORS, self.motors);
+        number::write::<2>(file, at + Site::AT_DISCOUNT, self.discount);
     }
 
     // Whether compensation or generating devices exist.
@@ -98,23 +99,23 @@ impl Site {
         (most < self.compensation) | (most < self.motors)
     }
 
-    // The number of the first rule that the site breaks; 0 if it breaks none.
+    // The first rule that the site breaks, if it breaks one.
     #[tactic(auto, unfolding(crate::specs::Rules::site_rules, crate::specs::Rules::first_broken))]
-    pub fn broken(self) -> u32
-        ensures { (place : ℕ) → refusal_at result place ≡ first_broken (site_rules place self) }
+    pub fn check(self) -> Result<(), Rule>
+        ensures { (place : ℕ) → broken_at result place ≡ first_broken (site_rules place self) }
     {
         if rule::zero_or_above(Site::MOST_POWER, self.power) {
-            return 10;
+            return Err(Rule::Power);
         }
         if Site::MOST_FLAG < self.devices {
-            return 11;
+            return Err(Rule::Flag);
         }
         if self.wrong_devices() {
-            return 12;
+            return Err(Rule::Devices);
         }
         if Site::MOST_DISCOUNT < self.discount {
-            return 13;
+            return Err(Rule::Discount);
         }
-        0
+        Ok(())
     }
 }

@@ -5,5 +5,6 @@ pub mod Nets
 pub mod Laters
 pub mod Meters
 pub mod OneSite
+pub mod AllSites
 pub mod Turns
 pub mod Owns

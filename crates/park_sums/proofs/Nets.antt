@@ -1,16 +1,15 @@
--- Laws of the walk over rows: a store into one of them, and a line more at one of its ends.
+-- Laws of a row of the walk over the lines: a line more at one of its ends, and how large its numbers are.
 -- Assumes nothing.
-use Prim.Native.Nat.{ℕ, ◌+◌, ◌≤◌, ◌<◌, zero-le}
+use Prim.Native.Nat.{ℕ, ◌+◌, ◌≤◌, zero-le}
 use native.Mathlib.Nat.{add-le-add, mul-le-mul, le_trans, add-zero}
 use native.Mathlib.Omega.{arith}
-use mathlib.Core.Path.{◌≡◌, refl, sym, ap, subst, ◌∙◌}
+use mathlib.Core.Path.{◌≡◌, refl, sym, ap, ◌∙◌}
 use mathlib.Core.Bool.{Bool, true, false}
 use mathlib.Core.List.{List, [], ◌∷◌, ◌++◌}
-use borrow.Author.Tests.{eqb-true, eqb-false, eq-eqb, ne_eqb}
+use borrow.Author.Tests.{eq-eqb, ne_eqb}
 use lib.Dec.{eqb, lit≤}
 use lib.IntN.{ℤ, pos, ◌+ℤ◌, ◌-ℤ◌}
-use lib.ListN.{length, get_or, get_or-replicate, replicate, set, length-set}
-use lib.Seq.{get_or-set_same, get_or-set_other}
+use lib.ListN.{length, get_or, get_or-replicate, replicate}
 use Rattle.park_format.specs.Park.{inputs, transits, select}
 use Rattle.park_format.specs.Rules.{measures_reactive}
 use Rattle.park_format.specs.Accepted.{Every, KeptLine}
@@ -23,22 +22,11 @@ use Rattle.park_sums.specs.Sums.{sum_by}
 use Rattle.park_sums.specs.Flows.{flow_in}
 use Rattle.park_sums.proofs.Sums.{sum_by_snoc, sum_by-select, sum_small}
 use Rattle.park_sums.proofs.Signed.{difference_le, gained_size, net-gain, take_both}
-use Rattle.park_sums.specs.Inner.Rows.{at, gain, taken, gains, takes, AreNear, AreNet, IsDifference, IsNear, IsNet, IsSum, places, Room, size, SmallLine, SmallNumbers, when}
-
--- places that each hold P, after a store of what holds Q, where P elsewhere is Q
-module _ {ℓ} {A : Type ℓ} (P Q : ℕ → A → Type 0) (n : ℕ) (xs : List A) (d : A) where
-  pub store : ((k : ℕ) → k < n → P k (get_or xs k d)) → (j : ℕ) → j < length xs → {v : A} → Q j v → ((k : ℕ) (x : A) → (j ≡ k → ⊥) → P k x → Q k x) → (k : ℕ) → k < n → Q k (get_or (set xs j v) k d)
-  store all j h {v} here other k l = by (eqb j k) refl
-    where
-      by : (b : Bool) → eqb j k ≡ b → Q k (get_or (set xs j v) k d)
-      by true e =
-          subst (λ (m : ℕ). Q m (get_or (set xs j v) m d)) (eqb-true j k e) (rw (get_or-set_same xs j v d h) here)
-      by false e =
-          rw (get_or-set_other xs j k v d (λ q. eqb-false j k e (sym q))) (other k (get_or xs k d) (eqb-false j k e) (all k l))
+use Rattle.park_sums.specs.Inner.Rows.{at, gain, taken, gains, takes, IsDifference, IsNear, IsNet, IsSum, Room, size, SmallLine, when}
 
 -- a sum over the chosen lines, with one line more
 module _ (f : Line → ℕ) (test : Line → Bool) (lines : List Line) (l : Line) where
-  more : sum_by f (select test (lines ++ (l ∷ []))) ≡ sum_by f (select test lines) + when (test l) (f l)
+  pub more : sum_by f (select test (lines ++ (l ∷ []))) ≡ sum_by f (select test lines) + when (test l) (f l)
   more = sum_by-select f test (lines ++ (l ∷ [])) ∙ sum_by_snoc (λ (x : Line). when (test x) (f x)) lines l ∙ ap (λ (n : ℕ). n + when (test l) (f l)) (sym (sum_by-select f test lines))
 
   pub more_chosen : test l ≡ true → sum_by f (select test (lines ++ (l ∷ []))) ≡ sum_by f (select test lines) + f l
@@ -53,63 +41,44 @@ unfolding sum_by
 net_none = record { numbers = refl; net = λ i h. get_or-replicate size i (pos 0) (pos 0) h }
 
 -- an input more: at the site that it goes to, and at the others
-module _ (outs lines : List Line) (l : Line) where
-  pub input_here : {row before : List ℤ} → IsNet before (inputs l.to lines) outs → IsSum row before (gains l) → IsNet row (inputs l.to (lines ++ (l ∷ []))) outs
-  input_here {row} {before} b s =
+module _ (k : ℕ) (outs lines : List Line) (l : Line) {row : List ℤ} where
+  pub net_input_here : {before : List ℤ} → l.to ≡ k → IsNet before (inputs k lines) outs → IsSum row before (gains l) → IsNet row (inputs k (lines ++ (l ∷ []))) outs
+  net_input_here {before} e b s =
       record {
         numbers = s.numbers;
         net = λ i h.
             s.sum i h
             ∙ ap (λ (z : ℤ). z +ℤ pos (gain i l)) (b.net i h)
-            ∙ net-gain (sum_by (gain i) (inputs l.to lines)) (sum_by (taken i) outs) (gain i l)
-            ∙ ap (λ (n : ℕ). pos n -ℤ pos (sum_by (taken i) outs)) (sym (more_chosen (gain i) (λ (x : Line). eqb x.to l.to) lines l (eq-eqb l.to l.to refl)));
+            ∙ net-gain (sum_by (gain i) (inputs k lines)) (sum_by (taken i) outs) (gain i l)
+            ∙ ap (λ (n : ℕ). pos n -ℤ pos (sum_by (taken i) outs)) (sym (more_chosen (gain i) (λ (x : Line). eqb x.to k) lines l (eq-eqb l.to k e)));
       }
 
-  pub input_elsewhere : (k : ℕ) (row : List ℤ) → (l.to ≡ k → ⊥) → IsNet row (inputs k lines) outs → IsNet row (inputs k (lines ++ (l ∷ []))) outs
-  input_elsewhere k row h b =
+  pub net_input_elsewhere : (l.to ≡ k → ⊥) → IsNet row (inputs k lines) outs → IsNet row (inputs k (lines ++ (l ∷ []))) outs
+  net_input_elsewhere n b =
       record {
         numbers = b.numbers;
-        net = λ i m. b.net i m ∙ ap (λ (n : ℕ). pos n -ℤ pos (sum_by (taken i) outs)) (sym (more_other (gain i) (λ (x : Line). eqb x.to k) lines l (ne_eqb l.to k h)));
+        net = λ i h. b.net i h ∙ ap (λ (n : ℕ). pos n -ℤ pos (sum_by (taken i) outs)) (sym (more_other (gain i) (λ (x : Line). eqb x.to k) lines l (ne_eqb l.to k n)));
       }
 
 -- a transit more
-module _ (ins lines : List Line) (l : Line) where
-  pub transit_here : {row before : List ℤ} → IsNet before ins (transits l.from lines) → IsDifference row before (takes l) → IsNet row ins (transits l.from (lines ++ (l ∷ [])))
-  transit_here {row} {before} b s =
+module _ (k : ℕ) (ins lines : List Line) (l : Line) {row : List ℤ} where
+  pub net_transit_here : {before : List ℤ} → l.from ≡ k → IsNet before ins (transits k lines) → IsDifference row before (takes l) → IsNet row ins (transits k (lines ++ (l ∷ [])))
+  net_transit_here {before} e b s =
       record {
         numbers = s.numbers;
         net = λ i h.
             s.difference i h
             ∙ ap (λ (z : ℤ). z -ℤ pos (taken i l)) (b.net i h)
-            ∙ take_both (pos (sum_by (gain i) ins)) (sum_by (taken i) (transits l.from lines)) (taken i l)
-            ∙ ap (λ (n : ℕ). pos (sum_by (gain i) ins) -ℤ pos n) (sym (more_chosen (taken i) (λ (x : Line). eqb x.from l.from) lines l (eq-eqb l.from l.from refl)));
+            ∙ take_both (pos (sum_by (gain i) ins)) (sum_by (taken i) (transits k lines)) (taken i l)
+            ∙ ap (λ (n : ℕ). pos (sum_by (gain i) ins) -ℤ pos n) (sym (more_chosen (taken i) (λ (x : Line). eqb x.from k) lines l (eq-eqb l.from k e)));
       }
 
-  pub transit_elsewhere : (k : ℕ) (row : List ℤ) → (l.from ≡ k → ⊥) → IsNet row ins (transits k lines) → IsNet row ins (transits k (lines ++ (l ∷ [])))
-  transit_elsewhere k row h b =
+  pub net_transit_elsewhere : (l.from ≡ k → ⊥) → IsNet row ins (transits k lines) → IsNet row ins (transits k (lines ++ (l ∷ [])))
+  net_transit_elsewhere n b =
       record {
         numbers = b.numbers;
-        net = λ i m. b.net i m ∙ ap (λ (n : ℕ). pos (sum_by (gain i) ins) -ℤ pos n) (sym (more_other (taken i) (λ (x : Line). eqb x.from k) lines l (ne_eqb l.from k h)));
+        net = λ i h. b.net i h ∙ ap (λ (n : ℕ). pos (sum_by (gain i) ins) -ℤ pos n) (sym (more_other (taken i) (λ (x : Line). eqb x.from k) lines l (ne_eqb l.from k n)));
       }
-
--- all rows, with the line stored at one of its ends
-pub after_input : {rows : List (List ℤ)} (lines outs : List Line) (l : Line) → l.to < places → AreNet rows lines outs → {v : List ℤ} → IsSum v (get_or rows l.to []) (gains l) → AreNet (set rows l.to v) (lines ++ (l ∷ [])) outs
-after_input {rows} lines outs l h b s =
-    record {
-      sites = simp length-set b.sites;
-      row =
-          store (λ (k : ℕ) (x : List ℤ). IsNet x (inputs k lines) (transits k outs)) (λ (k : ℕ) (x : List ℤ). IsNet x (inputs k (lines ++ (l ∷ []))) (transits k outs)) places rows [] b.row l.to (omega (arith, b.sites))
-          (input_here (transits l.to outs) lines l (b.row l.to h) s) (λ k x. input_elsewhere (transits k outs) lines l k x);
-    }
-
-pub after_transit : {rows : List (List ℤ)} (ins lines : List Line) (l : Line) → l.from < places → AreNet rows ins lines → {v : List ℤ} → IsDifference v (get_or rows l.from []) (takes l) → AreNet (set rows l.from v) ins (lines ++ (l ∷ []))
-after_transit {rows} ins lines l h b s =
-    record {
-      sites = simp length-set b.sites;
-      row =
-          store (λ (k : ℕ) (x : List ℤ). IsNet x (inputs k ins) (transits k lines)) (λ (k : ℕ) (x : List ℤ). IsNet x (inputs k ins) (transits k (lines ++ (l ∷ [])))) places rows [] b.row l.from (omega (arith, b.sites))
-          (transit_here (inputs l.from ins) lines l (b.row l.from h) s) (λ k x. transit_elsewhere (inputs k ins) lines l k x);
-    }
 
 -- how large a line's numbers are
 pub each_le : (most : ℕ) (xs : List ℕ) → Every (λ (x : ℕ). x ≤ most) xs → (i : ℕ) → get_or xs i 0 ≤ most
@@ -129,13 +98,7 @@ module _ (l : Line) (s : SmallLine l) where
   pub taken-le : (i : ℕ) → taken i l ≤ most_loss
   taken-le = each_le most_loss (takes l) (le_trans (when-le (measures_reactive l.meters) l.active) (omega arith), (omega arith, (omega arith, (omega arith, (mul-le-mul s.reactive s.eerp, (mul-le-mul s.generated s.eerp, (mul-le-mul s.night s.eerp, (zero-le, (zero-le, tt)))))))))
 
-  pub gains-numbers : SmallNumbers (gains l)
-  gains-numbers = record { numbers = refl; small = λ i h. gain-le i }
-
-  pub takes-numbers : SmallNumbers (takes l)
-  takes-numbers = record { numbers = refl; small = λ i h. taken-le i }
-
--- lines of an accepted file, no more than a park has
+-- lines of an accepted park, no more than one has
 pub record Few (head : Header) (lines : List Line) : Type 0 where
   pub kept : Every (KeptLine head) lines
   pub few : length lines ≤ most_lines
@@ -177,8 +140,3 @@ sum_room {before = before} l small near sum =
           λ i h. rw (sum.sum i h)
           (le_trans (gained_size (at before i) (gain i l)) (le_trans (add-le-add (near.near i h) (gain-le l small i)) (lit≤ tt)));
     }
-
-pub both_room : (rows : List (List ℤ)) (l : Line) → SmallLine l → AreNear rows → l.to < places → {v : List ℤ} → IsSum v (get_or rows l.to []) (gains l) → (k : ℕ) → k < places → Room (get_or (set rows l.to v) k [])
-both_room rows l small near to sum k h =
-    store (λ (k : ℕ) (x : List ℤ). IsNear x) (λ (k : ℕ) (x : List ℤ). Room x) places rows [] near.row l.to (omega (arith, near.sites))
-    (sum_room l small (near.row l.to to) sum) (λ k x n. near_room) k h

@@ -1,60 +1,29 @@
--- Laws of a row that a line is added to or taken from, number by number.
+-- Laws of a row: made number by number, and a number of it that is cut at 0.
 -- Assumes nothing.
-use Prim.Native.Nat.{ℕ, ◌+◌, ◌≤◌, ◌<◌}
-use mathlib.Core.Path.{◌≡◌, refl, ◌∙◌}
+use Prim.Native.Nat.{ℕ, zero, suc, ◌+◌, ◌≤◌, ◌<◌}
+use native.Mathlib.Nat.{not-suc-le-zero, le_of_suc-le-suc, le_trans, add-zero, add-suc, suc-add, zero-add}
+use native.Mathlib.Numerals.{add-one}
 use mathlib.Core.List.{List}
-use native.Mathlib.Nat.{le_trans}
-use native.Mathlib.Omega.{arith}
-use borrow.Author.Count.{below_more}
-use lib.IntN.{ℤ, pos, nat_abs}
-use lib.ListN.{length, get_or, set, length-set}
-use lib.Seq.{get_or-set_same, get_or-set_other}
-use mir.Syntax.{w64}
-use mir.Val.{SFits, to_z, of_z}
+use denote.Param.Members.{Called, Mut}
+use lib.IntN.{ℤ}
+use lib.ListN.{get_or}
+use Rattle.std.specs.Array.{IsFromFnResultFrom}
 use Rattle.park_charge.specs.Losses.{above_le}
 use Rattle.park_format.specs.Limits.{most_net}
-use Rattle.park_sums.specs.Inner.Rows.{at, net_at, Room, size}
-use Rattle.park_sums.proofs.Signed.{near_fits, read_whole, stored}
+use Rattle.park_sums.specs.Inner.Rows.{net_at, Room, size}
 
--- the numbers before i are worked out, the others as they were
-pub record Reached (op : ℤ → ℕ → ℤ) (more : List ℕ) (before sums : List ℤ) (i : ℕ) : Type 0 where
-  pub within : i ≤ size
-  pub numbers : length sums ≡ size
-  pub done : (k : ℕ) → k < i → at sums k ≡ op (at before k) (get_or more k 0)
-  pub left : (k : ℕ) → i ≤ k → at sums k ≡ at before k
+-- numbers that calls made, one for each place, where each call keeps K and gives what is Q there
+module _ {F B : Type 0} (g : Mut F (ℕ × Unit {0}) B) (K : F → Type 0) (Q : ℕ → B → Type 0) (turn : (f : F) (i : ℕ) (y : B) (q : F) → K f → Called g f (i, tt) y q → K q × Q i y) where
+  made_from : (f : F) (ys : List B) (i n : ℕ) → K f → IsFromFnResultFrom g f ys i n → (k : ℕ) → k < n → (d : B) → Q (i + k) (get_or ys (i + k) d)
+  made_from f ys i zero keeps made k h d = absurd (not-suc-le-zero h)
+  made_from f ys i (suc n) keeps made zero h d = rw (add-zero, made.2.1 d) (turn f i made.1 made.0 keeps made.3).1
+  made_from f ys i (suc n) keeps made (suc k) h d =
+      rw (add-suc i k, ← suc-add i k, ← add-one i)
+      (made_from made.0 ys (i + 1) n (turn f i made.1 made.0 keeps made.3).0 made.4 k (le_of_suc-le-suc h) d)
 
-module _ (op : ℤ → ℕ → ℤ) (more : List ℕ) (before : List ℤ) where
-  pub reached_none : length before ≡ size → Reached op more before before 0
-  reached_none h = record { within = omega arith; numbers = h; done = λ k l. absurd (none k l); left = λ k l. refl }
-    where
-      none : (k : ℕ) → k < 0 → ⊥
-      none k l = omega arith
-
-  module _ (sums : List ℤ) (i : ℕ) (so_far : Reached op more before sums i) (h : i < size) where
-    reached_more : {v : ℤ} → v ≡ op (at before i) (get_or more i 0) → Reached op more before (set sums i v) (i + 1)
-    reached_more {v} e =
-        record {
-          within = omega arith;
-          numbers = simp length-set so_far.numbers;
-          done = below_more _ i (λ k l. get_or-set_other sums i k v (pos 0) (λ q. omega arith) ∙ so_far.done k l) (get_or-set_same sums i v (pos 0) (omega (arith, so_far.numbers)) ∙ e);
-          left = λ k l. get_or-set_other sums i k v (pos 0) (λ q. omega arith) ∙ so_far.left k (omega arith);
-        }
-
-    module _ (room : Room before) where
-      pub near_left : nat_abs (at sums i) ≤ most_net
-      near_left = rw (so_far.left i (omega arith)) (room.near i h)
-
-      fits_left : SFits w64 (at sums i)
-      fits_left = near_fits (at sums i) near_left
-
-      -- the number that a turn reads is near enough to 0, and what it stores is worked out
-      pub near_read : nat_abs (to_z w64 (of_z w64 (at sums i))) ≤ most_net
-      near_read = rw (read_whole (at sums i) fits_left) near_left
-
-      pub reached_stored : {r : ℤ} → SFits w64 (op (at sums i) (get_or more i 0)) → r ≡ op (to_z w64 (of_z w64 (at sums i))) (get_or more i 0) → Reached op more before (set sums i (to_z w64 (of_z w64 r))) (i + 1)
-      reached_stored fits e =
-          reached_more (rw (← so_far.left i (omega arith)) (stored (at sums i) (λ (z : ℤ). op z (get_or more i 0)) fits_left fits e))
+  pub made_each : (f : F) (ys : List B) (n : ℕ) → K f → IsFromFnResultFrom g f ys 0 n → (d : B) (k : ℕ) → k < n → Q k (get_or ys k d)
+  made_each f ys n keeps made d k h = rw zero-add at (made_from f ys 0 n keeps made k h d)
 
 -- how large a number of a row is that is cut at 0
 pub net-le : (row : List ℤ) → Room row → (i : ℕ) → i < size → net_at row i ≤ most_net
-net-le row room i h = le_trans (above_le (at row i)) (room.near i h)
+net-le row room i h = le_trans (above_le _) (room.near i h)

@@ -1,15 +1,14 @@
 -- Laws of a signed sum that gains or loses a natural: how far it is from 0, and that the machine reads it whole.
 -- Assumes nothing.
 use Prim.Native.Nat.{ℕ, zero, suc, ◌+◌, ◌-◌, ◌^◌, ◌≤◌, ◌<◌}
-use mathlib.Core.Path.{◌≡◌, sym, ap, subst, ◌∙◌}
+use mathlib.Core.Path.{◌≡◌, sym, ap, ◌∙◌}
 use mathlib.Core.Bool.{Bool, true, false, cond}
-use native.Mathlib.Nat.{lt_of_le_of_lt}
 use native.Mathlib.Omega.{arith}
 use lib.Dec.{ltb}
 use lib.IntN.{ℤ, pos, negsuc, neg_ℤ, nat_abs, ◌+ℤ◌, ◌-ℤ◌, +ℤ_assoc, +ℤ_comm, neg_ℤ-+ℤ}
 use lib.Signed.{mag}
 use Rattle.park_charge.specs.Losses.{above_is, cut_is, size_is}
-use Rattle.park_format.specs.Limits.{most_loss, most_net}
+use Rattle.park_format.specs.Limits.{most_net}
 use mir.Syntax.{w64}
 use mir.Val.{SFits, to_z, of_z}
 use mir.ValLaws.{to_z-of_z}
@@ -29,13 +28,6 @@ pub lost_mag : (z : ℤ) (n : ℕ) → mag (z -ℤ pos n) ≤ nat_abs z + n
 lost_mag z zero = gained_mag z 0
 lost_mag (pos a) (suc n) = difference_mag a (suc n)
 lost_mag (negsuc a) (suc n) = omega arith
-
-module _ (z : ℤ) (n : ℕ) (near : nat_abs z ≤ most_net) (small : n ≤ most_loss) where
-  pub gained_fits : SFits w64 (z +ℤ pos n)
-  gained_fits = record { sfits = lt_of_le_of_lt (gained_mag z n) (omega arith) }
-
-  pub lost_fits : SFits w64 (z -ℤ pos n)
-  lost_fits = record { sfits = lt_of_le_of_lt (lost_mag z n) (omega arith) }
 
 -- a sum is no farther from 0 than both
 pub gained_size : (z : ℤ) (n : ℕ) → nat_abs (z +ℤ pos n) ≤ nat_abs z + n
@@ -62,12 +54,6 @@ near_fits z h = small_fits z (omega arith)
 -- the machine reads a number that is small enough as it is
 pub read_whole : (z : ℤ) → SFits w64 z → to_z w64 (of_z w64 z) ≡ z
 read_whole z h = to_z-of_z w64 z h
-
--- what is stored of a number that was read: the operation on the number itself
-pub stored : (z : ℤ) (op : ℤ → ℤ) {r : ℤ} → SFits w64 z → SFits w64 (op z) → r ≡ op (to_z w64 (of_z w64 z)) → to_z w64 (of_z w64 r) ≡ op z
-stored z op whole fits e =
-    let is = e ∙ ap op (read_whole z whole) in
-    read_whole _ (subst (SFits w64) (sym is) fits) ∙ is
 
 -- a difference of naturals is no larger than both
 pub difference_le : (a b : ℕ) {most : ℕ} → a ≤ most → b ≤ most → nat_abs (pos a -ℤ pos b) ≤ most

@@ -1,4 +1,4 @@
-// What a site's lines add up to: rows of sums, and the walks over the lines of an accepted file that make them.
+// What a site's lines add up to: rows of sums, and the walks over the lines of an accepted park that make them.
 #![tactic(auto)]
 
 pub mod own;

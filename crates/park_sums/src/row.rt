@@ -1,11 +1,14 @@
 // What the walks over the lines add up for a site, its inputs less its transits: a row of numbers, whose places have names.
-ghost use Rattle.std.specs.Prelude.{◌≡◌, ◌*◌, ◌≤◌, ◌<◌, pos, ◌+ℤ◌, ◌-ℤ◌, nat_abs};
+ghost use Rattle.std.specs.Prelude.{◌≡◌, ℕ, ◌≤◌, ◌<◌, get_or, length, pos, ◌+ℤ◌, ◌-ℤ◌, nat_abs};
 ghost use Rattle.park_format.specs.Limits.{most_active, most_loss, most_losses, most_net};
 ghost use Rattle.park_charge.specs.Losses.{above_zero, split_sum};
-ghost use Rattle.park_sums.specs.Inner.Rows.{at, gains, losses, IsDifference, IsSum, Room, RoomForTangent, size, SmallLine, SmallNumbers, takes, takes_later, tangent_from, when};
+ghost use Rattle.park_sums.specs.Inner.Rows.{at, gains, losses, IsDifference, IsSum, Room, RoomForTangent, size, SmallLine, takes, takes_later, tangent_from};
 
 use park_charge::Split;
 use park_format::line::Line;
+use park_format::meter::Meter;
+use std::array;
+use std::hint::select_unpredictable;
 
 // How many numbers it has.
 pub const SIZE: usize = 9;
@@ -30,13 +33,6 @@ pub const NIGHT_LOSSES: usize = 6;
 pub const EERP: usize = 7;
 
 pub const COUNT: usize = 8;
-
-// x if on, else 0.
-fn when(on: bool, x: u64) -> u64
-    ensures { result ≡ when on x }
-{
-    if on { x } else { 0 }
-}
 
 // A sum with a number added to it.
 pub fn plus(sum: i64, more: u64) -> i64
@@ -63,7 +59,7 @@ fn gains(line: Line) -> [u64; SIZE]
     let active = line.active as u64;
     let generated = line.generated as u64;
     let night = line.night as u64;
-    let flow = park_charge::inflow(line.measures_reactive(), active, line.reactive as u64);
+    let flow = park_charge::inflow(line.measures(Meter::Reactive), active, line.reactive as u64);
     [
         active,
         flow,
@@ -86,7 +82,7 @@ fn takes(line: Line) -> [u64; SIZE]
     let reactive = line.reactive as u64;
     let generated = line.generated as u64;
     let night = line.night as u64;
-    let measured = when(line.measures_reactive(), line.active as u64);
+    let measured = select_unpredictable(line.measures(Meter::Reactive), line.active as u64, 0);
     [
         measured,
         reactive,
@@ -105,37 +101,18 @@ fn takes_later(tangent: u64, line: Line) -> [u64; SIZE]
     requires { SmallLine line }
     ensures { result ≡ takes_later tangent line }
 {
-    let active = when(!line.measures_reactive(), line.active as u64);
+    let active = select_unpredictable(!line.measures(Meter::Reactive), line.active as u64, 0);
     let flow = park_charge::estimated_outflow(tangent, active);
     [0, flow, 0, 0, flow * line.eerp as u64, 0, 0, 0, 0]
 }
 
-// A row with numbers added to it, each at its place.
-fn added(row: [i64; SIZE], more: [u64; SIZE]) -> [i64; SIZE]
-    requires { (Room row) × (SmallNumbers more) }
-    ensures { IsSum result row more }
+// A row with a step made at each of its places, by the number at that place.
+fn with_each<F: Fn(i64, u64) -> i64>(row: [i64; SIZE], numbers: [u64; SIZE], step: F) -> [i64; SIZE]
+    requires { (i : ℕ) → i < size → F.pre step (at row i) (get_or numbers i 0) }
+    ensures long { length result ≡ size }
+    ensures each { (i : ℕ) → i < size → F.post step (at row i) (get_or numbers i 0) (at result i) }
 {
-    let mut sums = row;
-    let mut i = 0;
-    while i < SIZE {
-        sums[i] = plus(sums[i], more[i]);
-        i += 1;
-    }
-    sums
-}
-
-// A row with numbers taken from it, each at its place.
-fn without(row: [i64; SIZE], less: [u64; SIZE]) -> [i64; SIZE]
-    requires { (Room row) × (SmallNumbers less) }
-    ensures { IsDifference result row less }
-{
-    let mut sums = row;
-    let mut i = 0;
-    while i < SIZE {
-        sums[i] = minus(sums[i], less[i]);
-        i += 1;
-    }
-    sums
+    array::from_fn(|i| step(row[i], numbers[i]))
 }
 
 // The row with one input more.
@@ -143,7 +120,7 @@ pub fn with_input(row: [i64; SIZE], line: Line) -> [i64; SIZE]
     requires { (Room row) × (SmallLine line) }
     ensures { IsSum result row (gains line) }
 {
-    added(row, gains(line))
+    with_each(row, gains(line), plus)
 }
 
 // The row with one transit more, but for the flow of one without a meter.
@@ -151,7 +128,7 @@ pub fn with_transit(row: [i64; SIZE], line: Line) -> [i64; SIZE]
     requires { (Room row) × (SmallLine line) }
     ensures { IsDifference result row (takes line) }
 {
-    without(row, takes(line))
+    with_each(row, takes(line), minus)
 }
 
 // The row less the flow of a transit without a meter.
@@ -159,7 +136,7 @@ pub fn with_unmetered(row: [i64; SIZE], tangent: u64, line: Line) -> [i64; SIZE]
     requires { (Room row) × (SmallLine line) }
     ensures { IsDifference result row (takes_later tangent line) }
 {
-    without(row, takes_later(tangent, line))
+    with_each(row, takes_later(tangent, line), minus)
 }
 
 // A number of a row, 0 where it is negative.

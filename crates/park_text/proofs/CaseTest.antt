@@ -1,13 +1,16 @@
 -- The starred cases: one computed test over the list, and what it means of each entry.
 -- Assumes nothing.
 use Prim.Native.Nat.{ℕ}
-use mathlib.Core.Path.{◌≡◌, refl, sym, ap, ap₂, subst, ◌∙◌}
-use mathlib.Core.Bool.{Bool, true, false, ◌&&◌, ◌||◌, true≢false}
+use mathlib.Core.Path.{◌≡◌, refl, sym, ap₂, ◌∙◌}
+use mathlib.Core.Bool.{Bool, true, false, ◌||◌, true≢false}
 use mathlib.Core.List.{List, [], ◌∷◌}
 use mathlib.Core.Option.{Option, none, some}
 use lib.Dec.{eqb}
-use lib.IntN.{ℤ, pos, negsuc}
+use lib.IntN.{pos}
 use borrow.Author.Tests.{eqb-true, eq-eqb, ne_eqb}
+use Rattle.std.specs.Cmp.Derive.{both_true}
+use Rattle.std.specs.Cmp.Lexicographic.{bytes_decides}
+use Rattle.std.proofs.lemmas.Bool.Decides.{Decides-int_eq}
 use Rattle.park_format.proofs.Tests.{and_both}
 use Rattle.park_format.specs.Park.{generator_at, generator_of, header_of, line_at, line_of, list_of, park_of, select, site_at, site_of}
 use Rattle.park_format.specs.Format.{fields_at, number_at, header_size, line_size}
@@ -29,7 +32,7 @@ use Rattle.park_bill.specs.Reply.{bills_of, call_refusal}
 use Rattle.park_text.specs.Answer.{answer_to}
 use Rattle.park_text.specs.Ascii.{ascii}
 use Rattle.park_text.specs.Text.{bill_text, decimal, digits_within, fields_text, names_text, refusal_text, site_text, sites_text}
-use Rattle.park_text.specs.Cases.{accepts, agree, AllCases, Case, cases, equal, holds, measured_line, numbers, refuses, same, Says, Whether}
+use Rattle.park_text.specs.Cases.{accepts, agree, AllCases, Case, cases, holds, measured_line, numbers, refuses, Says, Whether}
 use Rattle.park_text.specs.Cases.Case.{active_case, balance_case, charge_case, estimate_case, file_case, former_case, printed, reason_case, refused_case, surcharge_case, tangent_case, whole_bill}
 use Rattle.park_bill.proofs.Outcomes.{loss_balance}
 use Rattle.park_bill.proofs.Balances.{over_cong, over_none, over_zero}
@@ -49,22 +52,6 @@ refuses_is number place none e = absurd (true≢false (sym e))
 refuses_is number place (some r) e =
     let h = and_both (eqb r.0 number) (eqb r.1 place) e in
     ap₂ (λ (n p : ℕ). some (n, p)) (eqb-true r.0 number h.0) (eqb-true r.1 place h.1)
-
-same_is : (xs ys : List ℕ) → same xs ys ≡ true → xs ≡ ys
-same_is [] [] e = refl
-same_is [] (y ∷ ys) e = absurd (true≢false (sym e))
-same_is (x ∷ xs) [] e = absurd (true≢false (sym e))
-same_is (x ∷ xs) (y ∷ ys) e = let h = and_both (eqb x y) (same xs ys) e in ap₂ (λ (a : ℕ) (l : List ℕ). a ∷ l) (eqb-true x y h.0) (same_is xs ys h.1)
-
-equal_is : (y z : ℤ) → equal y z ≡ true → y ≡ z
-equal_is (pos a) (pos b) e = ap pos (eqb-true a b e)
-equal_is (pos a) (negsuc b) e = absurd (true≢false (sym e))
-equal_is (negsuc a) (pos b) e = absurd (true≢false (sym e))
-equal_is (negsuc a) (negsuc b) e = ap negsuc (eqb-true a b e)
-
-equal_self : (z : ℤ) → equal z z ≡ true
-equal_self (pos a) = eq-eqb a a refl
-equal_self (negsuc a) = eq-eqb a a refl
 
 -- a Boolean that agrees with what is told says whether it is so
 whether : (told test : Bool) {A : Type 0} → (test ≡ true → A) → (A → test ≡ true) → agree told test ≡ true → Whether told A
@@ -89,9 +76,6 @@ line_test l m =
     parts_true (eqb l.from 0) (eqb l.to 0) (measures_reactive l.meters)
     (λ f t. m (λ e. true≢false (sym (eq-eqb l.from 0 e) ∙ f)) (λ e. true≢false (sym (eq-eqb l.to 0 e) ∙ t)))
 
-both_true : {a b : Bool} → a ≡ true → b ≡ true → (a && b) ≡ true
-both_true p q = cc
-
 measured_is : (lines : List Line) → all_of measured_line lines ≡ true → Every MeasuredBetween lines
 unfolding all_of
 measured_is [] e = tt
@@ -103,9 +87,6 @@ is_measured : (lines : List Line) → Every MeasuredBetween lines → all_of mea
 unfolding all_of
 is_measured [] m = refl
 is_measured (l ∷ lines) m = both_true (line_test l m.0) (is_measured lines m.1)
-
-equation : (y z : ℤ) → y ≡ z → equal y z ≡ true
-equation y z e = subst (λ (x : ℤ). equal y x ≡ true) e (equal_self y)
 
 uncut_is : (f : ℕ → ℕ) (n : ℕ) → eqb (over_sites f n) 0 ≡ true → EachSite (λ (k : ℕ). f k ≡ 0) n
 uncut_is f n e = over_zero f n (eqb-true _ 0 e)
@@ -120,10 +101,10 @@ entry (whole_bill file list settled network) e =
     let a = and_both _ _ e in
     let b = and_both _ _ a.1 in
     let c = and_both _ _ b.1 in
-    (accepts_is (refusal file) a.0, (same_is _ list b.0, (eqb-true _ settled c.0, equal_is _ (pos network) c.1)))
-entry (file_case file bytes) e = same_is file bytes e
-entry (printed file text) e = same_is _ (ascii text) e
-entry (former_case file k list) e = same_is _ list e
+    (accepts_is (refusal file) a.0, ((bytes_decides _ list).0 b.0, (eqb-true _ settled c.0, (Decides-int_eq _ (pos network)).0 c.1)))
+entry (file_case file bytes) e = (bytes_decides file bytes).0 e
+entry (printed file text) e = (bytes_decides _ (ascii text)).0 e
+entry (former_case file k list) e = (bytes_decides _ list).0 e
 entry (refused_case file number place) e = refuses_is number place (refusal file) e
 entry (active_case file k wp) e =
     let a = and_both _ _ e in
@@ -140,11 +121,11 @@ entry (balance_case file energy measured balanced uncut) e =
     let d = and_both _ _ c.1 in (
       accepts_is (refusal file) a.0,
       (
-        equal_is _ energy b.0,
+        (Decides-int_eq _ energy).0 b.0,
         (
           whether measured _ (measured_is (park_of file).lines) (is_measured (park_of file).lines) c.0,
           (
-            whether balanced _ (equal_is _ _) (equation _ _) d.0,
+            whether balanced _ (Decides-int_eq _ _).0 (Decides-int_eq _ _).1 d.0,
             (
               whether uncut _ (uncut_is (λ (k : ℕ). numbers file k 4) _) (is_uncut (λ (k : ℕ). numbers file k 4) _) d.1,
               λ m. (

@@ -1,6 +1,6 @@
 pub mod Digits
 pub mod Readings
-pub mod Puts
+pub mod Writers
 pub mod Lines
 pub mod Answers
 pub mod CaseTest

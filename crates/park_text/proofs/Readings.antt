@@ -7,12 +7,13 @@ use mathlib.Core.Path.{◌≡◌, refl, sym, ap, ◌∙◌}
 use mathlib.Core.List.{List, [], ◌∷◌, ◌++◌, append_assoc, append-nil}
 use borrow.Author.Tests.{le-ltb}
 use lib.ListN.{length, take, drop, get_or, length-append}
+use Rattle.std.proofs.lemmas.Bool.{cases_lt}
 use Rattle.park_format.specs.Accepted.{Every}
 use Rattle.park_format.proofs.Lists.{Every_snoc}
 use Rattle.park_bill.specs.Bill.{bill_numbers}
 use Rattle.park_text.specs.Text.{bill_text, decimal, digit, digits_within, fields_text, names_text, newline, refusal_text, site_text, sites_text}
 use Rattle.park_text.specs.Laws.{BillReadsBack, FirstDigit, IsDigit, numbers_after, numbers_in, OnlyDigits, PrintsApart, ReadsBack, RefusalReadsBack, sites_in, SomeDigit, value, value_after}
-use Rattle.park_text.proofs.Digits.{more_within, one_digit, small_within}
+use Rattle.park_text.proofs.Digits.{more_within, small_within}
 
 value_snoc : (n : ℕ) (text : List ℕ) (d : ℕ) → value_after n (text ++ (d ∷ [])) ≡ 10 * value_after n text + (d - 48)
 unfolding value_after
@@ -33,7 +34,7 @@ value_within (suc most) n h =
     ∙ value_snoc 0 (digits_within most (n / 10)) (digit (n % 10))
     ∙ ap (λ (v : ℕ). 10 * v + (digit (n % 10) - 48)) (value_within most (n / 10) (omega arith))
     ∙ joined n)
-    (one_digit n)
+    (cases_lt n 10)
   where
     one : (n : ℕ) → value (digit n ∷ []) ≡ n
     one n = omega arith
@@ -53,7 +54,7 @@ first_within (suc most) n h above rest =
     (λ more.
     rw (more_within most n more, append_assoc (digits_within most (n / 10)) (digit (n % 10) ∷ []) rest)
     (first_within most (n / 10) (omega arith) (omega arith) (digit (n % 10) ∷ rest)))
-    (one_digit n)
+    (cases_lt n 10)
 
 pub first_digit : FirstDigit
 unfolding decimal
@@ -68,7 +69,7 @@ digits_within_lem (suc most) n =
     (λ more.
     rw (more_within most n more)
     (Every_snoc IsDigit (digits_within most (n / 10)) (digit (n % 10)) (digits_within_lem most (n / 10)) (omega arith, omega arith)))
-    (one_digit n)
+    (cases_lt n 10)
 
 pub only_digits : OnlyDigits
 unfolding decimal
@@ -80,7 +81,7 @@ some_digit n =
     ⊎_elim
     (λ small. rw (small_within n n small) (omega arith))
     (λ more. rw (more_within n n more, length-append (digits_within n (n / 10)) (digit (n % 10) ∷ [])) (omega arith))
-    (one_digit n)
+    (cases_lt n 10)
 
 -- a digit is not the end of a number
 digit_read : (n d : ℕ) (rest : List ℕ) → numbers_after n (digit d ∷ rest) ≡ numbers_after (10 * n + (digit d - 48)) rest
@@ -101,7 +102,7 @@ within_read (suc most) n h rest =
     ∙ within_read most (n / 10) (omega arith) (digit (n % 10) ∷ rest)
     ∙ digit_read (n / 10) (n % 10) rest
     ∙ ap (λ (i : ℕ). numbers_after i rest) (joined n))
-    (one_digit n)
+    (cases_lt n 10)
   where
     one : (n : ℕ) → 10 * 0 + (digit n - 48) ≡ n
     one n = omega arith

@@ -4,8 +4,10 @@
 -- balance is for; and parks of version 2, with and without generators, accepted and refused (02, R-5). `holds` says of each entry whether it is
 -- so; `Says` is what it then means. `all_cases` of CaseTest is the proof of `AllCases`.
 -- Assumes nothing.
-use Rattle.std.specs.Prelude.{ℕ, ◌*◌, ◌≤◌, ◌≡◌, Bool, true, false, not, ◌&&◌, ◌||◌, List, [], ◌∷◌, ◌++◌, eqb, length, ℤ, pos, negsuc, ◌+ℤ◌}
+use Rattle.std.specs.Prelude.{ℕ, ◌*◌, ◌≤◌, ◌≡◌, Bool, true, false, not, ◌&&◌, ◌||◌, List, [], ◌∷◌, ◌++◌, eqb, nat_eq, length, ℤ, pos, negsuc, ◌+ℤ◌}
 use Prim.Native.String.{String}
+use Rattle.std.specs.Cmp.Lexicographic.{pointwise}
+use Rattle.std.specs.Ordering.{int_eq}
 use Rattle.std.proofs.Math.Option.{Option, none, some}
 use Rattle.park_format.specs.Park.{park_of}
 use Rattle.park_format.specs.Rules.{IsAccepted, measures_reactive, refusal}
@@ -146,10 +148,7 @@ cases =
     ∷ []
 
 abbrev pub same : List ℕ → List ℕ → Bool
-same [] [] = true
-same [] (y ∷ ys) = false
-same (x ∷ xs) [] = false
-same (x ∷ xs) (y ∷ ys) = eqb x y && same xs ys
+same xs ys = pointwise nat_eq xs ys
 
 abbrev pub accepts : Option (ℕ × ℕ) → Bool
 accepts none = true
@@ -160,10 +159,7 @@ refuses number place none = false
 refuses number place (some r) = eqb r.0 number && eqb r.1 place
 
 abbrev pub equal : ℤ → ℤ → Bool
-equal (pos a) (pos b) = eqb a b
-equal (pos a) (negsuc b) = false
-equal (negsuc a) (pos b) = false
-equal (negsuc a) (negsuc b) = eqb a b
+equal y z = int_eq y z
 
 abbrev pub agree : Bool → Bool → Bool
 agree true b = b

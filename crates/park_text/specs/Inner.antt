@@ -1,2 +1,2 @@
 -- What only the contracts of inner functions and the proofs speak of. No contract of a call meant for others uses it.
-pub mod Put
+pub mod Writer

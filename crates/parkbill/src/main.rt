@@ -1,12 +1,13 @@
 // Reads a park file from standard input and prints the bill of each site, or the refusal.
 #![tactic(auto)]
 
-ghost use Rattle.std.specs.Prelude.{◌≡◌, ◌<◌, length, take, drop, Ok};
-ghost use Rattle.std.specs.Io.KnownBytes.{Consumes, IsAtEnd, ReadConsumes};
-ghost use Rattle.parkbill.specs.Answers.{AnswersEvery, sites_billed};
+ghost use Rattle.std.specs.Prelude.{◌<◌, length, drop, IfOk, IfSome};
+ghost use Rattle.std.specs.Io.KnownBytes.{ReadConsumes};
+ghost use Rattle.park_text.specs.Answer.{answer_to};
+ghost use Rattle.park_text.specs.Buffer.{Starts};
+ghost use Rattle.parkbill.specs.Answers.{AnswersEvery};
 ghost use Rattle.parkbill.specs.Read.{IsPrefixLen, ReadInput, ReadMore};
 
-use park_bill::call::ParkReply;
 use park_format::file;
 use std::io;
 use std::io::Read;
@@ -14,85 +15,62 @@ use std::io::Read;
 // One byte more than the longest accepted file has, so that a longer input has the answer of those that are read.
 const ROOM: usize = file::LONGEST + 1;
 
-#[derive(Clone, Copy)]
-struct Input {
-    // The bytes read, which stand at the start of the buffer.
-    size: usize,
-    // What the last read answered: no bytes at the end of the input, an error if it failed.
-    reply: io::Result<usize>,
-}
-
-// One read more, to the place after the bytes that were read before, which it keeps.
-fn read_more<R: Read>(reader: &mut R, size: usize, buf: &mut [u8]) -> Input
+// One read more, to the place after the bytes that were read before, which it keeps. It answers how many bytes it adds.
+fn read_more<R: Read>(reader: &mut R, size: usize, buf: &mut [u8]) -> io::Result<usize>
     requires { size < length buf.old }
     ensures read { ReadMore size buf.old result buf.new }
-    ensures bytes { ReadConsumes (R.remaining reader.old) (R.remaining reader.new) result.reply (drop size buf.new) }
+    ensures bytes { ReadConsumes (R.remaining reader.old) (R.remaining reader.new) result (drop size buf.new) }
 {
-    let most = buf.len();
-    let reply = reader.read(&mut buf[size..most]);
-    let more = reply.unwrap_or(0);
-    Input {
-        size: size + more,
-        reply,
-    }
+    reader.read(&mut buf[size..])
 }
 
-// Reads until the input ends, buf is full or a read fails.
-fn read_input<R: Read>(reader: &mut R, buf: &mut [u8; ROOM]) -> Input
-    ensures read { ReadInput result buf.new }
-    ensures bytes { Consumes (R.remaining reader.old) (R.remaining reader.new) (take result.size buf.new) }
-    ensures end { result.reply ≡ Ok 0 → IsAtEnd (R.remaining reader.new) }
+// Reads until the input ends, buf is full or a read fails, and answers how many bytes are read.
+fn read_input<R: Read>(reader: &mut R, buf: &mut [u8; ROOM]) -> io::Result<usize>
+    ensures { ReadInput ROOM (R.remaining reader.old) (R.remaining reader.new) result buf.new }
 {
-    let most = buf.len();
     let mut size = 0;
-    loop {
-        let input = read_more(reader, size, buf);
-        let next = input.size;
-        if next == size {
-            return input;
+    while size < ROOM {
+        let more = read_more(reader, size, buf)?;
+        if more == 0 {
+            return Ok(size);
         }
-        if next == most {
-            return input;
-        }
-        size = next;
+        size += more;
     }
+    Ok(size)
 }
 
-// The number of sites billed, none if the park is refused.
-fn sites_billed(reply: ParkReply) -> u64
-    ensures { result ≡ sites_billed reply }
-{
-    let ParkReply::Billed(sites) = reply else {
-        return 0;
-    };
-    sites
-}
-
-// Puts the answer to the input at the start of text, and answers its size. The first bytes of buffer are those read of the input.
-fn answer(buffer: &[u8; ROOM], bytes: usize, text: &mut [u8; park_text::ROOM]) -> usize
-    requires { IsPrefixLen bytes buffer.now }
-    ensures text { AnswersEvery buffer.now bytes text.old result text.new }
+// Puts the answer to the bytes read at the start of text, and answers its size.
+fn answer(bytes: &[u8], text: &mut [u8; park_text::ROOM]) -> usize
+    ensures text { AnswersEvery ROOM bytes.now text.old result text.new }
     ensures within { IsPrefixLen result text.new }
 {
-    let all: &[u8] = buffer;
     let mut list = [0u64; park_text::NUMBERS];
-    let reply = park_bill::bill_park(&all[..bytes], &mut list);
-    let ParkReply::Refused(refusal) = reply else {
-        return park_text::bill(sites_billed(reply), &list, text);
-    };
-    park_text::refusal(refusal, text)
+    match park_bill::bill_park(bytes, &mut list) {
+        Ok(sites) => park_text::bill(sites, &list, text),
+        Err(refusal) => park_text::refusal(refusal, text),
+    }
+}
+
+// Puts the answer to an input at the start of text, and answers its size.
+fn answer_input<R: Read>(reader: &mut R, text: &mut [u8; park_text::ROOM]) -> io::Result<usize>
+    ensures text { IfOk result (λ size. IfSome (R.remaining reader.old) (λ input. Starts (answer_to input) text.old size text.new)) }
+    ensures within { IfOk result (λ size. IsPrefixLen size text.new) }
+{
+    let mut buffer = [0u8; ROOM];
+    let size = read_input(reader, &mut buffer)?;
+    Ok(answer(&buffer[..size], text))
 }
 
 fn main(rt: HostRuntime) {
-    let mut buffer = [0u8; ROOM];
-    let input = read_input(&mut rt.stdin(), &mut buffer);
-    if let Err(error) = input.reply {
-        let _ = eprintln!(rt; "parkbill: standard input: {error}");
-        return;
-    }
     let mut text = [0u8; park_text::ROOM];
-    let size = answer(&buffer, input.size, &mut text);
-    if let Err(error) = rt.write_all(&text[..size]) {
-        let _ = eprintln!(rt; "parkbill: standard output: {error}");
+    match answer_input(&mut rt.stdin(), &mut text) {
+        Ok(size) => {
+            if let Err(error) = rt.write_all(&text[..size]) {
+                let _ = eprintln!(rt; "parkbill: standard output: {error}");
+            }
+        }
+        Err(error) => {
+            let _ = eprintln!(rt; "parkbill: standard input: {error}");
+        }
     }
 }

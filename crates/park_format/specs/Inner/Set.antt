@@ -1,12 +1,11 @@
 -- The sites with an input line, as a 16-bit set (01, rule 19 and its form): site k is in it where digit k - 1, counted from the lowest, is 1.
 -- Assumes nothing.
-use Rattle.std.specs.Prelude.{ℕ, zero, suc, ◌+◌, ◌/◌, ◌%◌, ◌≤◌, ◌<◌, ◌≡◌, Bool, true, false, cond, not, List, eqb, ltb}
+use Rattle.std.specs.Prelude.{ℕ, zero, suc, ◌+◌, ◌/◌, ◌%◌, ◌≤◌, ◌<◌, ◌≡◌, Bool, true, false, cond, not, List, eqb, ltb, Result, Ok, Err}
 use Rattle.std.proofs.Math.Option.{Option, none, some}
 use Rattle.park_format.specs.Park.{inputs}
-use Rattle.park_format.specs.Rules.{is_empty}
+use Rattle.park_format.specs.Rules.{is_empty, rule_number}
 use Rattle.park_format.specs.declared.line.Line.{Line}
-use Rattle.park_format.specs.declared.fed.Walked.{Walked}
-use Rattle.park_format.specs.declared.fed.Walked.TheVariants.{Refused, Fed}
+use Rattle.park_format.specs.declared.rule.Refusal.{Refusal}
 
 unfoldable pub has : ℕ → ℕ → Bool
 has set zero = eqb (set % 2) 1
@@ -29,6 +28,6 @@ abbrev pub IsFed : ℕ → List Line → Type 0
 IsFed set lines = (j : ℕ) → has set j ≡ not (is_empty (inputs (suc j) lines))
 
 -- what the walk over the lines answers: their first broken rule, or the sites with an input
-abbrev pub Walks : Walked → Option (ℕ × ℕ) → List Line → Type 0
-Walks (Refused r) first lines = some (r.number, r.place) ≡ first
-Walks (Fed set) first lines = (none ≡ first) × IsFed set lines
+abbrev pub Walks : Result ℕ Refusal → Option (ℕ × ℕ) → List Line → Type 0
+Walks (Err r) first lines = some (rule_number r.rule, r.place) ≡ first
+Walks (Ok set) first lines = (none ≡ first) × IsFed set lines

@@ -1,7 +1,7 @@
 -- What the walks over the lines add up for a site: a row of nine signed numbers, its inputs less its transits, and the meters that its lines share;
 -- and what its generators give.
 -- Assumes nothing.
-use Rattle.std.specs.Prelude.{ℕ, ◌+◌, ◌*◌, ◌≤◌, ◌<◌, ◌≡◌, Bool, cond, not, List, [], ◌∷◌, eqb, ℤ, pos, ◌+ℤ◌, ◌-ℤ◌, nat_abs, length, get_or, set}
+use Rattle.std.specs.Prelude.{ℕ, ◌+◌, ◌*◌, ◌≤◌, ◌<◌, ◌≡◌, Bool, cond, not, List, [], ◌∷◌, ℤ, pos, ◌+ℤ◌, ◌-ℤ◌, nat_abs, length, get_or, set}
 use Rattle.std.specs.Int.Bits.{bit_and}
 use Rattle.park_sums.specs.Sums.{all_of, sum_by}
 use Rattle.park_sums.specs.declared.own.Given.{Given}
@@ -9,8 +9,8 @@ use Rattle.park_sums.specs.declared.walk.SiteSums.{SiteSums}
 use Rattle.park_sums.specs.Flows.{flow_in, loss_in, outputs, produced}
 use Rattle.park_charge.specs.Flow.{estimated_out, tangent}
 use Rattle.park_charge.specs.Losses.{above_zero}
-use Rattle.park_format.specs.Limits.{most_eerp, most_loss, most_losses, most_net, most_reading, most_readings, most_sites}
-use Rattle.park_format.specs.Park.{generators_at, inputs, Park, select, transits}
+use Rattle.park_format.specs.Limits.{most_eerp, most_losses, most_net, most_reading, most_readings, most_sites}
+use Rattle.park_format.specs.Park.{generators_at, inputs, Park, transits}
 use Rattle.park_format.specs.Rules.{is_empty, measures_generated, measures_night, measures_reactive}
 use Rattle.park_format.specs.declared.generator.Generator.{Generator}
 use Rattle.park_format.specs.declared.line.Line.{Line}
@@ -96,11 +96,6 @@ pub record Room (row : List ℤ) : Type 0 where
   pub numbers : length row ≡ size
   pub near : (i : ℕ) → i < size → nat_abs (at row i) ≤ most_net
 
--- numbers that are small enough to be added
-pub record SmallNumbers (xs : List ℕ) : Type 0 where
-  pub numbers : length xs ≡ size
-  pub small : (i : ℕ) → i < size → get_or xs i 0 ≤ most_loss
-
 -- a row with numbers added to it, and taken from it
 pub record IsSum (row before : List ℤ) (more : List ℕ) : Type 0 where
   pub numbers : length row ≡ size
@@ -155,69 +150,22 @@ pub record GivenAt (site : ℕ) (g : Generator) (before after : Given) : Type 0 
   pub elsewhere : (g.site ≡ site → ⊥) → after ≡ before
   pub here : g.site ≡ site → after ≡ record { output = before.output + g.output; count = before.count + 1 }
 
--- one line more, if it is an input of the site, or a transit
-pub record TakesInput (site : ℕ) (l : Line) (before after : ℤ) : Type 0 where
-  pub elsewhere : (l.to ≡ site → ⊥) → after ≡ before
-  pub here : l.to ≡ site → after ≡ before -ℤ pos l.produced
-
-pub record AddsTransit (site : ℕ) (l : Line) (before after : ℤ) : Type 0 where
-  pub elsewhere : (l.from ≡ site → ⊥) → after ≡ before
-  pub here : l.from ≡ site → after ≡ before +ℤ pos l.produced
-
 -- the marks of what all these lines measure of generation
 pub record Common (mark : ℕ) (lines : List Line) : Type 0 where
   pub generated : measures_generated mark ≡ all_of (λ (l : Line). measures_generated l.meters) lines
   pub night : measures_night mark ≡ all_of (λ (l : Line). measures_night l.meters) lines
-
--- the rows of all sites, and of the network at 0, of the inputs among some lines and the transits among others
-pub record AreNet (rows : List (List ℤ)) (into out : List Line) : Type 0 where
-  pub sites : length rows ≡ places
-  pub row : (k : ℕ) → k < places → IsNet (get_or rows k []) (inputs k into) (transits k out)
-
-pub record AreLess (tangents : List ℕ) (rows before : List (List ℤ)) (lines : List Line) : Type 0 where
-  pub sites : length rows ≡ places
-  pub row : (k : ℕ) → k < places → IsLess (get_or tangents k 0) (get_or rows k []) (get_or before k []) (transits k lines)
 
 -- rows of the first walk, with room for the second
 pub record IsNear (row : List ℤ) : Type 0 where
   pub numbers : length row ≡ size
   pub near : (i : ℕ) → i < size → nat_abs (at row i) ≤ most_losses
 
-pub record AreNear (rows : List (List ℤ)) : Type 0 where
-  pub sites : length rows ≡ places
-  pub row : (k : ℕ) → k < places → IsNear (get_or rows k [])
+-- what stands for a site past the last
+abbrev pub no_sums : SiteSums
+no_sums = record { row = []; input_meters = 0; transit_meters = 0 }
 
--- the tangents of sites 1 to s, with the generators of each
-pub record AreTangents (tangents : List ℕ) (rows : List (List ℤ)) (p : Park) (s : ℕ) : Type 0 where
-  pub sites : length tangents ≡ places
-  pub tangent : (k : ℕ) → 1 ≤ k → k ≤ s → get_or tangents k 0 ≡ tangent_from (more_at k p) (get_or rows k [])
-
--- the marks of the lines that have each site at one of their ends
-pub record AreCommon (marks : List ℕ) (end : Line → ℕ) (lines : List Line) : Type 0 where
-  pub sites : length marks ≡ places
-  pub mark : (k : ℕ) → k < places → Common (get_or marks k 0) (select (λ (l : Line). eqb (end l) k) lines)
-
-abbrev pub to_of : Line → ℕ
-to_of l = l.to
-
-abbrev pub from_of : Line → ℕ
-from_of l = l.from
-
--- all that the first walk adds up
-pub record AreSums (rows : List (List ℤ)) (inputMeters transitMeters : List ℕ) (lines : List Line) : Type 0 where
-  pub net : AreNet rows lines lines
-  pub inputs : AreCommon inputMeters to_of lines
-  pub transits : AreCommon transitMeters from_of lines
-
--- a line added at both its ends: its row as an input, and then as a transit, and its meters
-pub record AddsLine (l : Line) (rows after : List (List ℤ)) (inputMeters transitMeters inputsAfter transitsAfter : List ℕ) : Type 0 where
-  pub input : List ℤ
-  pub transit : List ℤ
-  pub is_input : IsSum input (get_or rows l.to []) (gains l)
-  pub is_transit : IsDifference transit (get_or (set rows l.to input) l.from []) (takes l)
-  pub rows_are : after ≡ set (set rows l.to input) l.from transit
-  pub inputs_are : inputsAfter ≡ set inputMeters l.to (bit_and (get_or inputMeters l.to 0) l.meters)
-  pub transits_are : transitsAfter ≡ set transitMeters l.from (bit_and (get_or transitMeters l.from 0) l.meters)
+abbrev pub sums_at : List SiteSums → ℕ → SiteSums
+sums_at sums k = get_or sums k no_sums
 
 -- what the first walk adds up for one site, of the inputs among some lines and the transits among others
 pub record IsSiteSums (k : ℕ) (s : SiteSums) (into out : List Line) : Type 0 where
@@ -225,18 +173,54 @@ pub record IsSiteSums (k : ℕ) (s : SiteSums) (into out : List Line) : Type 0 w
   pub inputs : Common s.input_meters (inputs k into)
   pub transits : Common s.transit_meters (transits k out)
 
+-- and for every site, and for the network at 0
+pub record AreSums (sums : List SiteSums) (into out : List Line) : Type 0 where
+  pub sites : length sums ≡ places
+  pub site : (k : ℕ) → k < places → IsSiteSums k (sums_at sums k) into out
+
+-- less what the second walk takes, each site by its tangent
+pub record AreLess (tangents : List ℕ) (sums before : List SiteSums) (lines : List Line) : Type 0 where
+  pub sites : length sums ≡ places
+  pub row : (k : ℕ) → k < places → IsLess (get_or tangents k 0) (sums_at sums k).row (sums_at before k).row (transits k lines)
+  pub input_meters : (k : ℕ) → k < places → (sums_at sums k).input_meters ≡ (sums_at before k).input_meters
+  pub transit_meters : (k : ℕ) → k < places → (sums_at sums k).transit_meters ≡ (sums_at before k).transit_meters
+
+pub record AreNear (sums : List SiteSums) : Type 0 where
+  pub sites : length sums ≡ places
+  pub row : (k : ℕ) → k < places → IsNear (sums_at sums k).row
+
+-- the tangents of sites 1 to s, with the generators of each
+pub record AreTangents (tangents : List ℕ) (sums : List SiteSums) (p : Park) (s : ℕ) : Type 0 where
+  pub sites : length tangents ≡ places
+  pub tangent : (k : ℕ) → 1 ≤ k → k ≤ s → get_or tangents k 0 ≡ tangent_from (more_at k p) (sums_at sums k).row
+
+-- the sums of a site with one line more, as an input, and as a transit
+pub record WithInput (l : Line) (before after : SiteSums) : Type 0 where
+  pub row : IsSum after.row before.row (gains l)
+  pub inputs : after.input_meters ≡ bit_and before.input_meters l.meters
+  pub transits : after.transit_meters ≡ before.transit_meters
+
+pub record WithTransit (l : Line) (before after : SiteSums) : Type 0 where
+  pub row : IsDifference after.row before.row (takes l)
+  pub inputs : after.input_meters ≡ before.input_meters
+  pub transits : after.transit_meters ≡ bit_and before.transit_meters l.meters
+
+-- a line added at both its ends
+pub record AddsLine (l : Line) (before after : List SiteSums) : Type 0 where
+  pub input : SiteSums
+  pub transit : SiteSums
+  pub is_input : WithInput l (sums_at before l.to) input
+  pub is_transit : WithTransit l (sums_at (set before l.to input) l.from) transit
+  pub are : after ≡ set (set before l.to input) l.from transit
+
 -- one line more at one of its ends, if that is the site
 pub record InputAt (site : ℕ) (l : Line) (before after : SiteSums) : Type 0 where
   pub elsewhere : (l.to ≡ site → ⊥) → after ≡ before
-  pub row : l.to ≡ site → IsSum after.row before.row (gains l)
-  pub inputs : l.to ≡ site → after.input_meters ≡ bit_and before.input_meters l.meters
-  pub transits : after.transit_meters ≡ before.transit_meters
+  pub here : l.to ≡ site → WithInput l before after
 
 pub record TransitAt (site : ℕ) (l : Line) (before after : SiteSums) : Type 0 where
   pub elsewhere : (l.from ≡ site → ⊥) → after ≡ before
-  pub row : l.from ≡ site → IsDifference after.row before.row (takes l)
-  pub transits : l.from ≡ site → after.transit_meters ≡ bit_and before.transit_meters l.meters
-  pub inputs : after.input_meters ≡ before.input_meters
+  pub here : l.from ≡ site → WithTransit l before after
 
 -- at both
 pub record LineAt (site : ℕ) (l : Line) (before after : SiteSums) : Type 0 where

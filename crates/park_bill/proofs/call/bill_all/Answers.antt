@@ -1,25 +1,24 @@
-use Rattle.park_format.specs.Park.{park_of}
-use Rattle.park_sums.proofs.Turns.{all_few, header_kept}
+use Rattle.park_format.proofs.Accepted.{park_kept}
 use Rattle.park_bill.proofs.Starts.{rows_near, sites_walked, sums_fresh, tangents_room}
 use Rattle.park_bill.proofs.call.bill_all.Goals as goal
 
-pub sums-requires-clause-fresh : goal.sums-requires-clause-fresh
-sums-requires-clause-fresh c = sums_fresh
+pub sums-requires : goal.sums-requires
+sums-requires g c = record { fresh = sums_fresh }
 
-pub tangents-requires-clause-room : goal.tangents-requires-clause-room
-tangents-requires-clause-room c =
-    let h = c.args.header in
-    let a = c.requires.accepted in
-    tangents_room h (park_of c.args.file.now) (all_few _ a.0 h a.1) (header_kept _ a.0 h a.1).sites.1 c.sums.ensures
+pub tangents-requires : goal.tangents-requires
+tangents-requires g c =
+    let p = g.P.Records.park c.args.park.now in
+    let kept = park_kept p (g.met.P.Records.recorded c.args.park.now) (g.met.P.Accepted.kept c.args.park.now) in
+    record { room = tangents_room p kept c.sums.ensures }
 
-pub after_transits-requires-clause-near : goal.after_transits-requires-clause-near
-after_transits-requires-clause-near c =
-    let h = c.args.header in
-    let a = c.requires.accepted in
-    rows_near h (park_of c.args.file.now) (all_few _ a.0 h a.1) (header_kept _ a.0 h a.1).sites.1 c.sums.ensures
+pub after_transits-requires : goal.after_transits-requires
+after_transits-requires g c =
+    let p = g.P.Records.park c.args.park.now in
+    let kept = park_kept p (g.met.P.Records.recorded c.args.park.now) (g.met.P.Accepted.kept c.args.park.now) in
+    rows_near p kept c.sums.ensures
 
 pub write_bills-requires-clause-walked : goal.write_bills-requires-clause-walked
-write_bills-requires-clause-walked c =
-    let h = c.args.header in
-    let a = c.requires.accepted in
-    sites_walked h (park_of c.args.file.now) (all_few _ a.0 h a.1) (header_kept _ a.0 h a.1).sites.1 c.sums.ensures c.tangents.ensures c.after_transits.ensures
+write_bills-requires-clause-walked g c =
+    let p = g.P.Records.park c.args.park.now in
+    let kept = park_kept p (g.met.P.Records.recorded c.args.park.now) (g.met.P.Accepted.kept c.args.park.now) in
+    sites_walked p kept c.sums.ensures c.tangents.ensures c.after_transits.ensures

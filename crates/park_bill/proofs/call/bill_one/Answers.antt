@@ -1,13 +1,14 @@
 use Rattle.std.proofs.Common.{ℕ, ◌≡◌, ◌+◌, ◌-◌, ◌≤◌, sym, ap, subst, ◌∙◌, arith}
 use Rattle.std.proofs.Math.IntN.{ℤ}
-use Rattle.park_format.specs.Park.{park_of}
+use Rattle.park_format.proofs.Accepted.{park_kept}
+use Rattle.park_format.proofs.Rules.{within}
 use Rattle.park_sums.specs.Inner.Rows.{tangent_from}
-use Rattle.park_sums.proofs.Nets.{net_near}
+use Rattle.park_sums.specs.declared.walk.SiteSums.{SiteSums}
 use Rattle.park_sums.proofs.Signed.{near_fits, read_whole}
 use Rattle.park_sums.proofs.Turns.{all_few}
 use Rattle.park_bill.specs.Bill.{touching}
 use Rattle.park_bill.specs.Inner.Site.{IsSite}
-use Rattle.park_bill.proofs.Links.{made_site, tangent_room}
+use Rattle.park_bill.proofs.Links.{made_site, row_near, tangent_room}
 use Rattle.park_bill.proofs.call.bill_one.Goals as goal
 
 -- site k - 1, counted from 0, is site k counted from 1
@@ -15,30 +16,28 @@ counted : (k : ℕ) → 1 ≤ k → k - 1 + 1 ≡ k
 counted k h = omega arith
 
 pub tangent-tangent-requires : goal.tangent-tangent-requires
-tangent-tangent-requires c =
-    let few = all_few _ c.requires.accepted.0 c.args.header c.requires.accepted.1 in
-    let more = c.more_at-more.ensures in (
-      tangent_room c.args.header c.args.site (park_of c.args.file.now) few c.site_sums-sums.ensures.net,
-      rw (read_whole _ (near_fits _ more.most)) more.most,
-    )
+tangent-tangent-requires g c =
+    let p = g.P.Records.park c.args.park.now in
+    let few = all_few p (park_kept p (g.met.P.Records.recorded c.args.park.now) (g.met.P.Accepted.kept c.args.park.now)) in
+    let most = c.more_at.ensures.most in
+    (tangent_room p few c.args.site c.site_sums-sums.ensures.net, rw (read_whole c.more_at.result (near_fits c.more_at.result most)) most)
 
-pub site_after_transits-after-requires-clause-near : goal.site_after_transits-after-requires-clause-near
-site_after_transits-after-requires-clause-near c =
-    let lines = (park_of c.args.file.now).lines in
-    let few = all_few _ c.requires.accepted.0 c.args.header c.requires.accepted.1 in
-    net_near c.args.header c.args.site lines lines few few c.site_sums-sums.ensures.net
+pub site_after_transits-row-requires : goal.site_after_transits-row-requires
+site_after_transits-row-requires g c =
+    let p = g.P.Records.park c.args.park.now in
+    let few = all_few p (park_kept p (g.met.P.Records.recorded c.args.park.now) (g.met.P.Accepted.kept c.args.park.now)) in
+    record { near = row_near p few c.args.site c.site_sums-sums.ensures.net }
 
-pub bill_at-requires-clause-walked : goal.bill_at-requires-clause-walked
-bill_at-requires-clause-walked c =
-    let p = park_of c.args.file.now in
-    let few = all_few _ c.requires.accepted.0 c.args.header c.requires.accepted.1 in
+pub bill_at-requires : goal.bill_at-requires
+bill_at-requires g c =
+    let p = g.P.Records.park c.args.park.now in
+    let few = all_few p (park_kept p (g.met.P.Records.recorded c.args.park.now) (g.met.P.Accepted.kept c.args.park.now)) in
+    let there = within p.header.sites c.args.site (sym (rw (c.if-is_missing.false, c.header.ensures) at c.is_missing.ensures)) in
     let sums = c.site_sums-sums in
-    let more = c.more_at-more in
-    let whole = read_whole more.result (near_fits more.result more.ensures.most) ∙ more.ensures.more in
-    let made =
-    made_site c.args.header c.args.site p few sums.ensures.net c.site_after_transits-after.ensures
-    (c.tangent-tangent.ensures ∙ ap (λ (z : ℤ). tangent_from z sums.result.row) whole) sums.ensures.inputs sums.ensures.transits in (
-      omega (arith, c.requires.there),
-      subst (λ (k : ℕ). IsSite (touching k p) c.site_after_transits-after.result c.tangent-tangent.result sums.result.input_meters sums.result.transit_meters)
-          (sym (counted c.args.site c.requires.there.0)) made,
-    )
+    let after : SiteSums = record { row = c.site_after_transits-row.result; input_meters = sums.result.input_meters; transit_meters = sums.result.transit_meters } in
+    let tangent = c.tangent-tangent.result in
+    let whole = read_whole c.more_at.result (near_fits c.more_at.result c.more_at.ensures.most) ∙ c.more_at.ensures.more in
+    let made : IsSite (touching c.args.site p) after tangent =
+    made_site p few c.args.site sums.ensures.net after tangent c.site_after_transits-row.ensures
+    (c.tangent-tangent.ensures ∙ ap (λ (z : ℤ). tangent_from z sums.result.row) whole) sums.ensures.inputs sums.ensures.transits in
+    (omega (arith, there), subst (λ (k : ℕ). IsSite (touching k p) after tangent) (sym (counted c.args.site there.0)) made)

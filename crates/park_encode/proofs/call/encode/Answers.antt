@@ -1,64 +1,46 @@
-use Rattle.std.proofs.Common.{ℕ, ◌≤◌, List, ◌++◌, drop, length, ◌⊎◌, inr, sym, ap, subst, ◌∙◌, arith}
-use Rattle.std.proofs.Math.Option.{Option}
+use Rattle.std.proofs.Common.{ℕ, ◌≡◌, ◌≤◌, List, ◌++◌, drop, length, refl, sym, ap, inr, ◌∙◌, arith}
+use Rattle.std.proofs.lemmas.Result.{err_from_is_err_and}
 use Rattle.park_format.specs.Call.{answer, unless_refused}
-use Rattle.park_format.specs.Limits.{most_generators, most_lines, most_sites}
-use Rattle.park_format.specs.Rules.{size_of}
+use Rattle.park_format.specs.Rules.{rule_number, size_of}
 use Rattle.park_format.specs.declared.header.Header.{Header}
 use Rattle.park_encode.specs.Encode.{made_file, made_size}
-use Rattle.park_encode.specs.Numbers.{list_count, list_park}
-use Rattle.park_encode.proofs.Accepted.{enough, list_count_lem, list_kept}
-use Rattle.park_encode.proofs.Refusals.{buffer_refused, list_first, nothing_refused}
-use Rattle.park_encode.proofs.Table.{first_version}
+use Rattle.park_encode.specs.Numbers.{list_park}
+use Rattle.park_encode.proofs.Refusals.{nothing_refused}
+use Rattle.park_encode.proofs.Refused.{buffer_kept, buffer_too_short, lists_refused}
 use Rattle.park_encode.proofs.Written.{buffer_is}
 use Rattle.park_encode.proofs.call.encode.Goals as goal
 
--- the outcome and the buffer, by what the call's refusal comes to
-abbrev outcome : List ℕ → Option (ℕ × ℕ) → (ℕ × ℕ) ⊎ ℕ
-outcome numbers refused = answer refused (made_size numbers)
+-- the size of the file, by the header of the list that was opened
+its_size : {numbers its : List ℕ} {h : Header} {size : ℕ} → its ≡ numbers → h ≡ (list_park its).header → size ≡ size_of h → size ≡ made_size numbers
+unfolding list_park
+its_size same read told = told ∙ ap size_of read ∙ ap made_size same
 
-abbrev left : List ℕ → List ℕ → Option (ℕ × ℕ) → List ℕ
-left numbers before refused = unless_refused refused (made_file numbers ++ drop (made_size numbers) before) before
-
-pub returns-in-Refused : goal.returns-in-Refused
-returns-in-Refused c =
-    let numbers = c.args.numbers.now in
-    let before = c.args.file.now in
-    let e = list_first numbers before c.in-Refused.ensures in
-    record { reply = sym (ap (outcome numbers) e); file = sym (ap (left numbers before) e) }
-
-pub header_of-header-requires : goal.header_of-header-requires
-header_of-header-requires c = enough _ (sym c.in_default.ensures)
+pub returns-in_err-list : goal.returns-in_err-list
+returns-in_err-list c =
+    let e = err_from_is_err_and c.from_residual.result c.from_residual.ensures.1 in
+    let r = c.in_err-list.field-0.0 in
+    let refused = lists_refused c.args.numbers.now c.args.file.now (rule_number r.rule, r.place) (sym c.in_err-list.ensures.refused) in
+    record { reply = rw (e.1, e.2) (sym refused); file = sym (buffer_kept c.args.numbers.now c.args.file.now _ refused) }
 
 pub returns-then-file-size : goal.returns-then-file-size
 returns-then-file-size c =
-    let numbers = c.args.numbers.now in
-    let before = c.args.file.now in
-    let size = c.size-size.ensures ∙ ap size_of c.header_of-header.ensures in
-    let e = buffer_refused numbers before (sym c.in_default.ensures) (omega (arith, size, c.if-file-size.true)) in
-    record { reply = sym (ap (outcome numbers) e); file = sym (ap (left numbers before) e) }
+    let size = its_size c.in_ok-list.ensures.same c.header.ensures c.size-size.ensures in
+    let refused = (buffer_too_short c.args.numbers.now c.args.file.now 0).1 (refl, (sym c.in_ok-list.ensures.refused, omega (arith, size, c.if-file-size.true))) in
+    record { reply = rw c.at.ensures (sym refused); file = sym (buffer_kept c.args.numbers.now c.args.file.now _ refused) }
 
 pub write_park-requires : goal.write_park-requires
-unfolding list_park
 write_park-requires c =
-    let numbers = c.args.numbers.now in
-    let accepted = sym c.in_default.ensures in
-    let h = c.header_of-header.ensures in
-    let kept = (list_kept numbers accepted).header in
-    let sites = subst (λ (y : Header). y.sites ≤ most_sites) (sym h) kept.sites.1 in
-    let lines = subst (λ (y : Header). y.lines ≤ most_lines) (sym h) kept.lines.1 in
-    let generators = subst (λ (y : Header). y.generators ≤ most_generators) (sym h) kept.generators in
-    let count = list_count_lem numbers accepted ∙ ap (λ (y : Header). list_count y.sites y.lines) (sym h) in
-    record {
-      counted = record { first = first_version numbers h; sites = sites; lines = lines; size = omega (arith, count) };
-      room = record { sites = sites; lines = lines; generators = generators; size = omega (arith, c.size-size.ensures, c.if-file-size.false) };
-      its = h;
-    }
+    let size = its_size c.in_ok-list.ensures.same c.header.ensures c.size-size.ensures in
+    rw c.in_ok-list.ensures.same (rw size at c.if-file-size.false)
 
 pub returns : goal.returns
 returns c =
     let numbers = c.args.numbers.now in
     let before = c.args.file.now in
-    let size = c.size-size.ensures ∙ ap size_of c.header_of-header.ensures in
-    let room : made_size numbers ≤ length before = omega (arith, size, c.if-file-size.false) in
-    let e = nothing_refused numbers before (sym c.in_default.ensures) room in
-    record { reply = ap inr size ∙ sym (ap (outcome numbers) e); file = buffer_is numbers c.write_park.ensures room ∙ sym (ap (left numbers before) e) }
+    let size = its_size c.in_ok-list.ensures.same c.header.ensures c.size-size.ensures in
+    let room : made_size numbers ≤ length before = rw size at c.if-file-size.false in
+    let allowed = nothing_refused numbers before (sym c.in_ok-list.ensures.refused) room in
+    record {
+      reply = ap inr size ∙ sym (ap (λ refused. answer refused (made_size numbers)) allowed);
+      file = buffer_is numbers (rw c.in_ok-list.ensures.same at c.write_park.ensures) room ∙ sym (ap (λ refused. unless_refused refused (made_file numbers ++ drop (made_size numbers) before) before) allowed);
+    }

@@ -8,5 +8,5 @@ use Rattle.park_sums.proofs.row.takes_later.Goals as goal
 
 pub overflow_mul-result : goal.overflow_mul-result
 overflow_mul-result c =
-    let active : c.when-active.result ≤ most_reading = rw c.when-active.ensures (le_trans (when-le (not c.measures_reactive.result) c.args.line.active) c.requires.active) in
+    let active : c.select_unpredictable-active.result ≤ most_reading = rw c.select_unpredictable-active.ensures (le_trans (when-le (not c.measures.result) c.args.line.active) c.requires.active) in
     product_fits most_reading most_eerp (rw c.estimated_outflow-flow.ensures (estimated_out-le c.args.tangent active)) c.requires.eerp tt

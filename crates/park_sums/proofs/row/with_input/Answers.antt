@@ -1,5 +1,5 @@
-use Rattle.park_sums.proofs.Nets.{gains-numbers}
+use Rattle.park_sums.proofs.Nets.{gain-le}
 use Rattle.park_sums.proofs.row.with_input.Goals as goal
 
-pub added-requires : goal.added-requires
-added-requires c = (c.requires.0, rw c.gains.ensures (gains-numbers c.args.line c.requires.1))
+pub with_each-requires : goal.with_each-requires
+with_each-requires c = λ i h. (c.requires.0.near i h, rw c.gains.ensures (gain-le c.args.line c.requires.1 i))

@@ -1,5 +1,5 @@
-use Rattle.park_sums.proofs.Nets.{takes-numbers}
+use Rattle.park_sums.proofs.Nets.{taken-le}
 use Rattle.park_sums.proofs.row.with_transit.Goals as goal
 
-pub without-requires : goal.without-requires
-without-requires c = (c.requires.0, rw c.takes.ensures (takes-numbers c.args.line c.requires.1))
+pub with_each-requires : goal.with_each-requires
+with_each-requires c = λ i h. (c.requires.0.near i h, rw c.takes.ensures (taken-le c.args.line c.requires.1 i))

@@ -1,5 +1,5 @@
-use Rattle.park_sums.proofs.Laters.{later_small}
+use Rattle.park_sums.proofs.Laters.{later-le}
 use Rattle.park_sums.proofs.row.with_unmetered.Goals as goal
 
-pub without-requires : goal.without-requires
-without-requires c = (c.requires.0, rw c.takes_later.ensures (later_small c.args.tangent c.args.line c.requires.1))
+pub with_each-requires : goal.with_each-requires
+with_each-requires c = λ i h. (c.requires.0.near i h, rw c.takes_later.ensures (later-le c.args.tangent c.args.line c.requires.1 i))

@@ -1,6 +1,6 @@
-use Rattle.park_sums.proofs.Nets.{both_room}
+use Rattle.park_sums.proofs.AllSites.{both_room}
 use Rattle.park_sums.proofs.walk.add_line.Goals as goal
 
 pub with_transit-requires : goal.with_transit-requires
 with_transit-requires c =
-    (both_room c.args.rows.now c.args.line c.requires.small c.requires.near c.requires.ends.0 c.with_input.ensures _ c.requires.ends.1, c.requires.small)
+    (both_room c.args.sums.now c.args.line c.requires.small c.requires.near c.requires.ends.0 c.with_input.ensures _ c.requires.ends.1, c.requires.small)

@@ -1,38 +1,26 @@
-use Rattle.std.proofs.Common.{refl, arith}
-use Rattle.park_format.specs.Park.{line_of, list_of, select}
+use Rattle.std.specs.Prelude.{take}
+use Rattle.park_format.specs.Park.{select}
 use Rattle.park_sums.proofs.Laters.{later_room, less_at, less_none}
-use Rattle.park_sums.proofs.Turns.{file_sized, turn, walked_all}
+use Rattle.park_sums.proofs.Turns.{turn, Turn}
+use Rattle.park_sums.proofs.walk.site_after_transits.Given.{Over}
 use Rattle.park_sums.proofs.walk.site_after_transits.Goals as goal
+use Rattle.park_sums.proofs.walk.site_after_transits.Goals.{After-line}
+
+turned : (g : Over) (c : After-line g) → Turn (g.P.Records.park c.args.park.now) c.loop-i.i c.line.result
+turned g c =
+    let x = c.args.park.now in
+    turn (g.P.Records.park x) (g.met.P.Records.recorded x) (g.met.P.Accepted.kept x) c.header-i-end.ensures c.loop-i-test.true c.line.ensures
 
 pub loop-i-init : goal.loop-i-init
-unfolding list_of select
-loop-i-init c = record { within = omega arith; count = refl; less = less_none _ _ c.requires.near.numbers }
-
-pub line_of-line-requires-clause-sized : goal.line_of-line-requires-clause-sized
-line_of-line-requires-clause-sized c = file_sized _ c.requires.accepted.0 c.args.header c.requires.accepted.1
+unfolding select
+loop-i-init g c = less_none _ _ c.requires.near.numbers
 
 pub less_of-less-requires : goal.less_of-less-requires
-less_of-less-requires c =
-    let file = c.args.file.now in
-    let h = c.args.header in
-    let a = c.requires.accepted in
-    let t = turn file a.0 h a.1 c.loop-i.i c.line_of-line.result c.loop-i-test.true c.line_of-line.ensures in
-    (later_room _ _ _ (list_of (line_of h file) c.loop-i.i) t.earlier c.loop-i.invariant.less c.requires.near, t.small)
+less_of-less-requires g c =
+    let t = turned g (goal.at-less_of-less-requires g c).After-line in
+    (later_room _ _ _ _ t.earlier c.loop-i.invariant c.requires.near, t.small)
 
 pub loop-i-preserved : goal.loop-i-preserved
-loop-i-preserved c =
-    let file = c.args.file.now in
-    let h = c.args.header in
-    let a = c.requires.accepted in
-    let t = turn file a.0 h a.1 c.loop-i.i c.line_of-line.result c.loop-i-test.true c.line_of-line.ensures in
-    let here = c.loop-i.invariant in
-    record {
-      within = omega arith;
-      count = here.count;
-      less = rw t.more (less_at c.args.site (list_of (line_of h file) c.loop-i.i) c.line_of-line.result here.less c.less_of-less.ensures);
-    }
-
-pub returns : goal.returns
-returns c =
-    let here = c.loop-i.invariant in
-    rw (walked_all c.args.file.now c.requires.accepted.0 c.args.header c.requires.accepted.1 here.count here.within c.loop-i-test.false) at here.less
+loop-i-preserved g c =
+    let t = turned g (goal.at-loop-i-preserved g c).After-line in
+    rw t.more (less_at c.args.site (take c.loop-i.i (g.P.Records.park c.args.park.now).lines) c.line.result c.loop-i.invariant c.less_of-less.ensures)

@@ -7,10 +7,10 @@ unfolding bytes_for
 returns c =
     let h = c.args.self in
     rw c.requires.0
-    (first_stored 3 h.mark c.write_three.ensures
-    (first_stored 2 1 (rw c.requires.0 at c.write_two.ensures)
-    (first_stored 1 h.month c.write_one.ensures
-    (first_stored 1 h.sites c.write_one-2.ensures
-    (first_stored 1 h.lines c.write_one-3.ensures
-    (first_stored 4 h.price c.write_four.ensures
-    (last_stored 2 h.hours c.write_two-2.ensures)))))))
+    (first_stored 3 h.mark c.write.ensures
+    (first_stored 2 1 (rw c.requires.0 at c.write-2.ensures)
+    (first_stored 1 h.month c.write-3.ensures
+    (first_stored 1 h.sites c.write-4.ensures
+    (first_stored 1 h.lines c.write-5.ensures
+    (first_stored 4 h.price c.write-6.ensures
+    (last_stored 2 h.hours c.write-7.ensures)))))))

@@ -7,11 +7,11 @@ unfolding bytes_for
 returns c =
     let l = c.args.self in
     let at = c.args.at in
-    first_stored 1 l.from c.write_one.ensures
-    (next_stored at 1 1 l.to c.write_one-2.ensures
-    (next_stored at 2 1 l.meters c.write_one-3.ensures
-    (next_stored at 3 2 l.eerp c.write_two.ensures
-    (next_stored at 5 4 l.active c.write_four.ensures
-    (next_stored at 9 4 l.reactive c.write_four-2.ensures
-    (next_stored at 13 4 l.generated c.write_four-3.ensures
-    (last_stored 4 l.night c.write_four-4.ensures)))))))
+    first_stored 1 l.from c.write.ensures
+    (next_stored at 1 1 l.to c.write-2.ensures
+    (next_stored at 2 1 l.meters c.write-3.ensures
+    (next_stored at 3 2 l.eerp c.write-4.ensures
+    (next_stored at 5 4 l.active c.write-5.ensures
+    (next_stored at 9 4 l.reactive c.write-6.ensures
+    (next_stored at 13 4 l.generated c.write-7.ensures
+    (last_stored 4 l.night c.write-8.ensures)))))))
