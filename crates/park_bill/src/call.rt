@@ -1,11 +1,12 @@
 // The two billing calls.
 ghost use Rattle.std.specs.Prelude.{◌≡◌, ◌++◌, ◌+◌, ◌*◌, ◌≤◌, ◌<◌, length, drop};
+ghost use Rattle.park_format.specs.Call.{reply_of};
 ghost use Rattle.park_format.specs.Rules.{zero_or_above};
 ghost use Rattle.park_bill.specs.Bill.{bill, bill_numbers, touching};
 ghost use Rattle.park_bill.specs.Inner.Site.{AreSites, IsSite};
 ghost use Rattle.park_bill.specs.Inner.Outcome.{all_after, all_outcome, one_outcome};
 ghost use Rattle.park_bill.specs.Balance.{InBalance, SiteInBalance};
-ghost use Rattle.park_bill.specs.Reply.{bills_of, list_after, park_answer, park_outcome, reply_numbers, site_answer, site_outcome};
+ghost use Rattle.park_bill.specs.Reply.{bills_of, list_after, park_outcome, reply_numbers, site_outcome};
 
 use crate::bill::Bill;
 use crate::site::{self, Terms};
@@ -15,7 +16,7 @@ use park_format::rule::{Refusal, Rule};
 use park_sums::walk::SiteSums;
 use park_sums::{own, row, walk};
 
-// Whether a site that is asked for is not one of the park.
+// Whether a site that is asked for is not one of the park: zero_or_above for 64 bits, since a number narrowed first needs a second exit.
 fn is_missing(site: u64, sites: u32) -> bool
     ensures { result ≡ zero_or_above sites site }
 {
@@ -23,16 +24,16 @@ fn is_missing(site: u64, sites: u32) -> bool
 }
 
 // The bill of site k of a park, counted from 0, from what both walks left for it.
-fn bill_at<P: Accepted>(park: &P, k: u32, sums: SiteSums, tangent: u64) -> Bill
-    requires { (k < (P.park park.now).header.sites) × (IsSite (touching (k + 1) (P.park park.now)) sums tangent) }
+fn bill_at<P: Accepted>(park: &P, k: u32, sums: SiteSums) -> Bill
+    requires { (k < (P.park park.now).header.sites) × (IsSite (touching (k + 1) (P.park park.now)) sums) }
     ensures { result ≡ bill (P.park park.now) (k + 1) }
 {
-    site::bill_of(Terms::of(park), park.site(k), sums, tangent)
+    site::bill_of(Terms::of(park), park.site(k), sums)
 }
 
 // Bills one site of a park, if it is one, by walks for it alone.
 fn bill_one<P: Accepted>(park: &P, site: u64) -> Result<Bill, Refusal>
-    ensures { site_answer result ≡ one_outcome (P.park park.now) site }
+    ensures { reply_of result ≡ one_outcome (P.park park.now) site }
 {
     if is_missing(site, park.header().sites) {
         return Err(Rule::NoSuchSite.at(0));
@@ -41,17 +42,20 @@ fn bill_one<P: Accepted>(park: &P, site: u64) -> Result<Bill, Refusal>
     let sums = walk::site_sums(park, site);
     let tangent = row::tangent(sums.row, own::more_at(park, site));
     let row = walk::site_after_transits(park, site, tangent, sums.row);
-    Ok(bill_at(park, site - 1, SiteSums { row, ..sums }, tangent))
+    Ok(bill_at(
+        park,
+        site - 1,
+        SiteSums {
+            row,
+            tangent,
+            ..sums
+        },
+    ))
 }
 
 // Writes the bill of each site of a park into its own part of a list, from what the walks left.
-fn write_bills<P: Accepted>(
-    park: &P,
-    sums: &[SiteSums; walk::PLACES],
-    tangents: &[u64; walk::PLACES],
-    list: &mut [u64],
-)
-    requires walked { AreSites (P.park park.now) sums.now tangents.now }
+fn write_bills<P: Accepted>(park: &P, sums: &[SiteSums; walk::PLACES], list: &mut [u64])
+    requires walked { AreSites (P.park park.now) sums.now }
     requires long { bill_numbers * (P.park park.now).header.sites ≤ length list.old }
     ensures { list.new ≡ bills_of (P.park park.now) (P.park park.now).header.sites ++ drop (bill_numbers * (P.park park.now).header.sites) list.old }
 {
@@ -59,32 +63,30 @@ fn write_bills<P: Accepted>(
     for k in 0..park.header().sites {
         let site = k as usize + 1;
         let start = Bill::NUMBERS * k as usize;
-        bill_at(park, k, sums[site], tangents[site]).write(&mut list[start..start + Bill::NUMBERS]);
+        bill_at(park, k, sums[site]).write(&mut list[start..start + Bill::NUMBERS]);
     }
 }
 
 // Bills every site of a park into a list, if it is long enough.
 fn bill_all<P: Accepted>(park: &P, list: &mut [u64]) -> Result<u64, Refusal>
-    ensures reply { park_answer result ≡ all_outcome (P.park park.now) list.old }
+    ensures reply { reply_of result ≡ all_outcome (P.park park.now) list.old }
     ensures written { list.new ≡ all_after (P.park park.now) list.old }
 {
     let sites = park.header().sites;
     if list.len() < Bill::NUMBERS * sites as usize {
         return Err(Rule::ShortList.at(0));
     }
-    let mut sums = [SiteSums::NONE; walk::PLACES];
-    walk::sums(park, &mut sums);
-    let mut tangents = [0; walk::PLACES];
-    walk::tangents(park, &sums, &mut tangents);
-    walk::after_transits(park, &tangents, &mut sums);
-    write_bills(park, &sums, &tangents, list);
+    let mut sums = walk::sums(park);
+    walk::tangents(park, &mut sums);
+    walk::after_transits(park, &mut sums);
+    write_bills(park, &sums, list);
     Ok(u64::from(sites))
 }
 
 // Bills one site, counted from 1. It takes any number for a site, and bytes of any number.
 pub fn bill_site(file: &[u8], site: u64) -> Result<Bill, Refusal>
-    ensures reply { site_answer result ≡ site_outcome file.now site }
-    ensures balance { SiteInBalance file.now site (reply_numbers (site_answer result)) }
+    ensures reply { reply_of result ≡ site_outcome file.now site }
+    ensures balance { SiteInBalance file.now site (reply_numbers (reply_of result)) }
 {
     match park_format::open(file)? {
         Opened::First(park) => bill_one(&park, site),
@@ -94,7 +96,7 @@ pub fn bill_site(file: &[u8], site: u64) -> Result<Bill, Refusal>
 
 // Bills every site into a list, eleven numbers a site, and counts the sites; a refusal leaves the list as it was.
 pub fn bill_park(file: &[u8], list: &mut [u64]) -> Result<u64, Refusal>
-    ensures reply { park_answer result ≡ park_outcome file.now list.old }
+    ensures reply { reply_of result ≡ park_outcome file.now list.old }
     ensures written { list.new ≡ list_after file.now list.old }
     ensures balance { InBalance file.now list.old list.new }
 {

@@ -1,13 +1,11 @@
 -- What `encode` answers, and the buffer that it leaves (02, R-1). The table of rules is that of a file; 1 and 9 count numbers, and 22 comes last.
 -- Assumes nothing.
-use Rattle.std.specs.Prelude.{ℕ, ◌⊎◌, ◌≡◌, Bool, not, List, ◌++◌, eqb, ltb, length, drop, Result, Ok, Err}
-use Rattle.std.proofs.Common.{inl, inr}
+use Rattle.std.specs.Prelude.{ℕ, ◌⊎◌, ◌≡◌, Bool, not, List, ◌++◌, eqb, ltb, length, drop}
 use Rattle.std.proofs.Math.Option.{Option, none}
 use Rattle.park_format.specs.Call.{answer, refusal_with, unless_refused}
 use Rattle.park_format.specs.Made.{file_of}
-use Rattle.park_format.specs.Rules.{Row, first_broken, rule_number, rules_of, size_of}
+use Rattle.park_format.specs.Rules.{Row, first_broken, rules_of, size_of}
 use Rattle.park_format.specs.Rules.Row.{rule}
-use Rattle.park_format.specs.declared.rule.Refusal.{Refusal}
 use Rattle.park_encode.specs.Numbers.{header_fields, list_count, list_header, list_park}
 
 -- 1: fewer than five numbers
@@ -46,8 +44,3 @@ encode_outcome numbers buffer = answer (encode_refusal numbers buffer) (made_siz
 -- the buffer: the file, and what stood after it; no byte changes on a refusal
 abbrev pub buffer_after : List ℕ → List ℕ → List ℕ
 buffer_after numbers before = unless_refused (encode_refusal numbers before) (made_file numbers ++ drop (made_size numbers) before) before
-
--- number and place, or the length, of each case of the reply
-abbrev pub encode_answer : Result ℕ Refusal → (ℕ × ℕ) ⊎ ℕ
-encode_answer (Ok size) = inr size
-encode_answer (Err r) = inl (rule_number r.rule, r.place)

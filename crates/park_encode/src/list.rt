@@ -24,6 +24,7 @@ const LINE: usize = 8;
 // The version that is written, also when later ones exist.
 const VERSION: u32 = 1;
 
+// Places in the list, in numbers; those of a file, in bytes and by version, are Header's.
 // Where the numbers of site i begin, counted from 0.
 fn site_start(i: u32) -> usize
     ensures { result ≡ site_first i }

@@ -4,17 +4,16 @@ use Prim.Native.Nat.{ℕ, zero, suc, ◌+◌, ◌-◌, ◌*◌, ◌/◌, ◌%◌
 use native.Mathlib.Nat.{pow-suc, not-suc-le-zero, le_of_suc-le-suc, lt_of_lt_of_le, mod-eq_of_lt, one-mul}
 use native.Mathlib.Omega.{arith}
 use mathlib.Core.Path.{◌≡◌, refl, sym, ap, ◌∙◌}
-use mathlib.Core.Bool.{true, false, not, ◌&&◌, ◌||◌}
+use mathlib.Core.Bool.{true, false, not, ◌||◌}
 use lib.Dec.{eqb, eqb-zero-suc, eqb-suc-zero, eqb-suc-suc, lit≤}
-use lib.Bits.{bit_and, bit_or, and_mod, and_shr, or_shr, or_mod}
+use lib.Bits.{bit_or, or_shr, or_mod}
 use lib.Pow.{pow_mono}
 use lib.Count.{count_trailing_zeros, under, trailing_le}
 use borrow.Author.Tests.{not-true, not-false}
 use Rattle.park_format.specs.Inner.Set.{has, Lowest}
-use Rattle.park_format.specs.Rules.{measures_generated, measures_night}
 
 -- a digit is 0 or 1
-digit {ℓ} : (P : ℕ → Type ℓ) (x : ℕ) → x < 2 → P 0 → P 1 → P x
+pub digit {ℓ} : (P : ℕ → Type ℓ) (x : ℕ) → x < 2 → P 0 → P 1 → P x
 digit P zero h z o = z
 digit P (suc zero) h z o = o
 digit P (suc (suc x)) h z o = absurd (not-suc-le-zero (le_of_suc-le-suc (le_of_suc-le-suc h)))
@@ -24,22 +23,6 @@ low_or x y h k =
     digit (λ (a : ℕ). eqb (bit_or a y) 1 ≡ (eqb a 1 || eqb y 1)) x h
     (digit (λ (b : ℕ). eqb (bit_or 0 b) 1 ≡ (eqb 0 1 || eqb b 1)) y k refl refl)
     (digit (λ (b : ℕ). eqb (bit_or 1 b) 1 ≡ (eqb 1 1 || eqb b 1)) y k refl refl)
-
--- the digits of what two numbers have in common
-low_and : (x y : ℕ) → x < 2 → y < 2 → eqb (bit_and x y) 1 ≡ (eqb x 1 && eqb y 1)
-low_and x y h k =
-    digit (λ (a : ℕ). eqb (bit_and a y) 1 ≡ (eqb a 1 && eqb y 1)) x h
-    (digit (λ (b : ℕ). eqb (bit_and 0 b) 1 ≡ (eqb 0 1 && eqb b 1)) y k refl refl)
-    (digit (λ (b : ℕ). eqb (bit_and 1 b) 1 ≡ (eqb 1 1 && eqb b 1)) y k refl refl)
-
-digit_and : (a b : ℕ) → eqb (bit_and a b % 2) 1 ≡ (eqb (a % 2) 1 && eqb (b % 2) 1)
-digit_and a b = ap (λ (x : ℕ). eqb x 1) (and_mod a b 1) ∙ low_and (a % 2) (b % 2) (omega arith) (omega arith)
-
-pub both_generated : (a b : ℕ) → measures_generated (bit_and a b) ≡ (measures_generated a && measures_generated b)
-both_generated a b = ap (λ (x : ℕ). eqb (x % 2) 1) (and_shr a b 1) ∙ digit_and (a / 2) (b / 2)
-
-pub both_night : (a b : ℕ) → measures_night (bit_and a b) ≡ (measures_night a && measures_night b)
-both_night a b = ap (λ (x : ℕ). eqb (x % 2) 1) (and_shr a b 2) ∙ digit_and (a / 4) (b / 4)
 
 pub has-or : (j a b : ℕ) → has (bit_or a b) j ≡ (has a j || has b j)
 unfolding has

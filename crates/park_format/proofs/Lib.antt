@@ -7,6 +7,7 @@ pub mod Fields
 pub mod Entries
 pub mod Accepted
 pub mod Verdict
+pub mod Headed
 pub mod Cut
 pub mod Bytes
 pub mod Stores

@@ -124,18 +124,10 @@ module _ {ℓ} {A : Type ℓ} (g : ℕ → A → List Row) where
     pub up_to_next : (n : ℕ) → up_to n ≡ none → up_to (suc n) ≡ first_broken (g (suc n) (f n))
     up_to_next n e = ap first_broken (up_to_suc n) ∙ first_append (each g 1 (list_of f n)) (g (suc n) (f n)) e
 
-    -- one record more: it is read, and its rules are looked at
-    pub up_to_turn : (n : ℕ) {v : Option (ℕ × ℕ)} {x : A} → up_to n ≡ none → x ≡ f n → v ≡ first_broken (g (n + 1) x) → v ≡ up_to (n + 1)
-    up_to_turn n e read here = here ∙ rw (read, add-one) (sym (up_to_next n e))
-
     pub up_to_stays : (n m : ℕ) {r : ℕ × ℕ} → n ≤ m → up_to n ≡ some r → up_to m ≡ some r
     up_to_stays n m {r} h e =
         le_ind (λ (k : ℕ). up_to k ≡ some r) e
         (λ k l d. ap first_broken (up_to_suc k) ∙ first_stays (each g 1 (list_of f k)) (g (suc k) (f k)) d) m h
-
-    -- a refusal of one record is that of all of them
-    pub up_to_refused : (n m : ℕ) {v : Option (ℕ × ℕ)} {r : ℕ × ℕ} → n < m → v ≡ up_to (n + 1) → v ≡ some r → some r ≡ up_to m
-    up_to_refused n m h e refused = sym (up_to_stays (n + 1) m (omega arith) (sym e ∙ refused))
 
 pub within : (most x : ℕ) → zero_or_above most x ≡ false → (1 ≤ x) × (x ≤ most)
 within most x e =

@@ -18,6 +18,7 @@ use crate::{number, rule};
 pub struct Header {
     // The three letters of the file's mark, as a number.
     pub mark: u32,
+    // Versions stay a number here: a header is read before rule 3 is asked.
     pub version: u32,
     pub month: u32,
     // How many sites (s) and lines (n) the file has.
@@ -86,6 +87,7 @@ impl Header {
 
     pub const MOST_GENERATORS: u32 = 32;
 
+    // Sizes by the version that a file states; a loop over records has it as a const parameter.
     // The bytes of a header.
     #[tactic(auto, unfolding(crate::specs::Format::header_size))]
     pub fn len(version: u32) -> usize

@@ -12,7 +12,7 @@ use crate::line::Line;
 use crate::records::Records;
 use crate::site::Site;
 
-// VERSION is the version of the file. Each has code of its own, which knows where its records stand and what they have no field for.
+// VERSION is the version of the file, a number since a const parameter is one. Each has code of its own, which knows where its records stand and what they have no field for.
 #[derive(Clone, Copy)]
 pub struct Laid<'a, const VERSION: u32> {
     pub bytes: &'a [u8],

@@ -14,10 +14,10 @@ use crate::{number, rule};
 
 #[derive(Clone, Copy, Debug, PartialEq, Eq)]
 pub struct Line {
-    // The site that the line comes from, and the one it goes to; 0 is the network.
+    // The site that the line comes from, and the one it goes to; 0 is the network. They are read before rules 14, 23 and 24 are asked.
     pub from: u32,
     pub to: u32,
-    // The meter mark.
+    // The meter mark, the sum of its meters; any number, since it is read before rule 15 is asked.
     pub meters: u32,
     // D, ten-thousandths of kW/kVAr.
     pub eerp: u32,

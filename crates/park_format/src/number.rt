@@ -1,4 +1,5 @@
-// Numbers of the park file, read and written: unsigned, lowest byte first. Each asks that its bytes lie within the file.
+// Numbers of the park file, read and written: unsigned, lowest byte first. Each asks that its bytes lie within the file. They take the file and
+// a position, as the definitions of the format do: a slice cut for each number would be no plainer.
 ghost use Rattle.std.specs.Prelude.{◌≡◌, ◌+◌, ◌^◌, ◌≤◌, ◌<◌, length};
 ghost use Rattle.park_format.specs.Format.{number_at};
 ghost use Rattle.park_format.specs.Inner.Stored.{Stored};

@@ -45,6 +45,7 @@ pub trait Accepted: Records {
     ghost kept: { (x : Self) → KeepsRules (Self.park x) };
 }
 
+// Sites, lines and generators have a loop each: what is asked of them differs, and one function that is told what to ask would be longer.
 // The first broken rule of the sites, in their order, if one is broken.
 fn check_sites<R: Records>(records: &R) -> Result<(), Refusal>
     ensures { refusal_of result ≡ first_broken (each site_rules 1 (R.park records.now).sites) }

@@ -14,7 +14,7 @@ use crate::{number, rule};
 pub struct Site {
     // Permitted power, kW.
     pub power: u32,
-    // The flag: 1 if compensation or generating devices exist, else 0.
+    // The flag: 1 if compensation or generating devices exist, else 0; a number, since it is read before rule 11 is asked.
     pub devices: u32,
     // Installed compensation Q, kVAr.
     pub compensation: u32,

@@ -1,25 +1,25 @@
 -- Laws of the walks over all sites: a line more, stored at its ends.
 -- Assumes nothing.
 use Prim.Native.Nat.{ℕ, ◌+◌, ◌≤◌, ◌<◌}
-use native.Mathlib.Nat.{eq-or-lt_of_le}
+use native.Mathlib.Nat.{eq-or-lt_of_le, le_trans, not-suc-le-zero}
 use native.Mathlib.Omega.{arith}
 use mathlib.Core.Logic.{◌⊎◌, inl, inr}
-use mathlib.Core.Path.{◌≡◌, refl, sym, subst, ◌∙◌}
+use mathlib.Core.Path.{◌≡◌, refl, sym, ap, subst, ◌∙◌}
 use mathlib.Core.Bool.{Bool, true, false}
 use mathlib.Core.List.{List, [], ◌∷◌, ◌++◌}
 use borrow.Author.Tests.{eqb-true, eqb-false}
 use lib.Dec.{eqb}
-use lib.IntN.{ℤ}
-use lib.ListN.{length, get_or, set, length-set}
+use lib.IntN.{ℤ, pos}
+use lib.ListN.{length, get_or-replicate, replicate, set, length-set}
 use lib.Seq.{get_or-set_same, get_or-set_other}
 use Rattle.park_format.specs.Park.{Park, select, transits}
 use Rattle.park_format.specs.declared.header.Header.{Header}
 use Rattle.park_format.specs.declared.line.Line.{Line}
-use Rattle.park_sums.specs.Inner.Rows.{AddsLine, AreLess, AreNear, AreSums, AreTangents, IsDifference, IsLess, IsNear, IsSiteSums, more_at, no_sums, places, Room, SmallLine, sums_at, takes_later, tangent_from, WithInput}
+use Rattle.park_sums.specs.Inner.Rows.{AddsLine, AreLess, AreNear, AreSums, AreTangents, IsDifference, IsLess, IsNear, IsSiteSums, more_at, no_sums, places, Room, size, SmallLine, sums_at, takes_later, tangent_from, WithInput}
 use Rattle.park_sums.specs.declared.walk.SiteSums.{SiteSums}
 use Rattle.park_sums.proofs.Laters.{less_elsewhere, less_here, less_none}
 use Rattle.park_sums.proofs.Nets.{Few, near_room, net_near, sum_room}
-use Rattle.park_sums.proofs.OneSite.{input_elsewhere, input_here, transit_elsewhere, transit_here}
+use Rattle.park_sums.proofs.OneSite.{input_elsewhere, input_here, sums_none, transit_elsewhere, transit_here}
 
 -- sums that each are P, after a store of what is Q at its place, where P elsewhere is Q
 module _ (P Q : ℕ → SiteSums → Type 0) (sums : List SiteSums) (sites : length sums ≡ places) where
@@ -31,6 +31,17 @@ module _ (P Q : ℕ → SiteSums → Type 0) (sums : List SiteSums) (sites : len
           subst (λ (m : ℕ). Q m (sums_at (set sums j s) m)) (eqb-true j k e) (rw (get_or-set_same sums j s no_sums (omega arith)) here)
       by false e =
           rw (get_or-set_other sums j k s no_sums (λ q. eqb-false j k e (sym q))) (other k (sums_at sums k) (eqb-false j k e) (all k l))
+
+-- nothing is added up yet
+abbrev pub nothing_added : SiteSums
+nothing_added = record { row = replicate size (pos 0); tangent = 0; input_lacks = 0; transit_lacks = 0 }
+
+pub sums_fresh : AreSums (replicate places nothing_added) [] []
+sums_fresh =
+    record {
+      sites = refl;
+      site = λ k h. rw (get_or-replicate places k nothing_added no_sums h) (sums_none k nothing_added refl refl refl);
+    }
 
 -- a line more, added at both its ends
 pub line_added : {sums after : List SiteSums} (lines : List Line) (l : Line) → l.to < places → l.from < places → AreSums sums lines lines → AddsLine l sums after → AreSums after (lines ++ (l ∷ [])) (lines ++ (l ∷ []))
@@ -60,45 +71,49 @@ pub sums_near : {sums : List SiteSums} (lines : List Line) → AreSums sums line
 sums_near lines b {head} few = record { sites = b.sites; row = λ k h. net_near head k lines lines few few (b.site k h).net }
 
 -- no transit is taken yet
-pub all_less_none : (tangents : List ℕ) (sums : List SiteSums) → AreNear sums → AreLess tangents sums sums []
+pub all_less_none : (sums : List SiteSums) → AreNear sums → AreLess sums sums []
 unfolding select
-all_less_none tangents sums near =
-    record {
-      sites = near.sites;
-      row = λ k h. less_none _ _ (near.row k h).numbers;
-      input_meters = λ k h. refl;
-      transit_meters = λ k h. refl;
-    }
+all_less_none sums near = record { sites = near.sites; row = λ k h. less_none _ _ (near.row k h).numbers; rest = λ k h. refl }
 
 -- a transit more, taken in the second walk
-pub transit_taken : (tangents : List ℕ) {sums before : List SiteSums} (lines : List Line) (l : Line) → l.from < places → AreLess tangents sums before lines → {row : List ℤ} → IsDifference row (sums_at sums l.from).row (takes_later (get_or tangents l.from 0) l) → AreLess tangents (set sums l.from (record (sums_at sums l.from) { row = row })) before (lines ++ (l ∷ []))
-transit_taken tangents {sums} {before} lines l from b {row} s =
+pub transit_taken : {sums before : List SiteSums} (lines : List Line) (l : Line) → l.from < places → AreLess sums before lines → {row : List ℤ} → IsDifference row (sums_at sums l.from).row (takes_later (sums_at sums l.from).tangent l) → AreLess (set sums l.from (record (sums_at sums l.from) { row = row })) before (lines ++ (l ∷ []))
+transit_taken {sums} {before} lines l from b {row} s =
     record {
       sites = simp length-set b.sites;
-      row = store (less lines) (less (lines ++ (l ∷ []))) sums b.sites b.row l.from from (less_here l.from lines l (b.row l.from from) refl s) (λ k x n c. less_elsewhere k lines l c n refl);
-      input_meters = meters (λ (x : SiteSums). x.input_meters) refl b.input_meters;
-      transit_meters = meters (λ (x : SiteSums). x.transit_meters) refl b.transit_meters;
+      row = store (less lines) (less (lines ++ (l ∷ []))) sums b.sites b.row l.from from (less_here l.from lines l (b.row l.from from) refl (subst (λ (tg : ℕ). IsDifference row (sums_at sums l.from).row (takes_later tg l)) (ap (λ (x : SiteSums). x.tangent) (b.rest l.from from)) s)) (λ k x n c. less_elsewhere k lines l c n refl);
+      rest = store rest rest sums b.sites b.rest l.from from (ap (λ (x : SiteSums). record x { row = row }) (b.rest l.from from)) (λ k x n c. c);
     }
   where
     less : List Line → ℕ → SiteSums → Type 0
-    less taken k x = IsLess (get_or tangents k 0) x.row (sums_at before k).row (transits k taken)
+    less taken k x = IsLess (sums_at before k).tangent x.row (sums_at before k).row (transits k taken)
 
-    after : SiteSums
-    after = record (sums_at sums l.from) { row = row }
+    rest : ℕ → SiteSums → Type 0
+    rest k x = x ≡ record (sums_at before k) { row = x.row }
 
-    meters : (of : SiteSums → ℕ) → of after ≡ of (sums_at sums l.from) → ((k : ℕ) → k < places → of (sums_at sums k) ≡ of (sums_at before k)) → (k : ℕ) → k < places → of (sums_at (set sums l.from after) k) ≡ of (sums_at before k)
-    meters of same all =
-        let stay = λ (k : ℕ) (x : SiteSums). of x ≡ of (sums_at before k) in
-        store stay stay sums b.sites all l.from from (same ∙ all l.from from) (λ k x n c. c)
+-- no tangent is known yet
+pub no_tangents : (sums : List SiteSums) (p : Park) → length sums ≡ places → AreTangents sums sums p 0
+no_tangents sums p sites = record { sites = sites; tangent = λ k low high. absurd (not-suc-le-zero (le_trans low high)); rest = λ k h. refl }
 
 -- the tangent of one site more
-pub tangent_more : {tangents : List ℕ} {sums : List SiteSums} {p : Park} (s : ℕ) → s + 1 < places → AreTangents tangents sums p s → {v : ℕ} → v ≡ tangent_from (more_at (s + 1) p) (sums_at sums (s + 1)).row → AreTangents (set tangents (s + 1) v) sums p (s + 1)
-tangent_more {tangents} {sums} {p} s h so_far {v} e =
+pub tangent_more : {sums before : List SiteSums} {p : Park} (s : ℕ) → s + 1 < places → AreTangents sums before p s → {v : ℕ} → v ≡ tangent_from (more_at (s + 1) p) (sums_at sums (s + 1)).row → AreTangents (set sums (s + 1) (record (sums_at sums (s + 1)) { tangent = v })) before p (s + 1)
+tangent_more {sums} {before} {p} s h so_far {v} e =
     record {
       sites = simp length-set so_far.sites;
       tangent = λ k low high. by k low (eq-or-lt_of_le high);
+      rest = store rest rest sums so_far.sites so_far.rest (s + 1) h (ap (λ (x : SiteSums). record x { tangent = v }) (so_far.rest (s + 1) h)) (λ k x n c. c);
     }
   where
-    by : (k : ℕ) → 1 ≤ k → (k ≡ s + 1) ⊎ (k < s + 1) → get_or (set tangents (s + 1) v) k 0 ≡ tangent_from (more_at k p) (sums_at sums k).row
-    by k low (inl q) = rw q (get_or-set_same tangents (s + 1) v 0 (omega (arith, so_far.sites)) ∙ e)
-    by k low (inr l) = get_or-set_other tangents (s + 1) k v 0 (λ q. omega arith) ∙ so_far.tangent k low (omega arith)
+    rest : ℕ → SiteSums → Type 0
+    rest k x = x ≡ record (sums_at before k) { tangent = x.tangent }
+
+    after : SiteSums
+    after = record (sums_at sums (s + 1)) { tangent = v }
+
+    by : (k : ℕ) → 1 ≤ k → (k ≡ s + 1) ⊎ (k < s + 1) → (sums_at (set sums (s + 1) after) k).tangent ≡ tangent_from (more_at k p) (sums_at before k).row
+    by k low (inl q) =
+        rw q
+        (ap (λ (x : SiteSums). x.tangent) (get_or-set_same sums (s + 1) after no_sums (omega (arith, so_far.sites)))
+        ∙ e
+        ∙ ap (λ (x : SiteSums). tangent_from (more_at (s + 1) p) x.row) (so_far.rest (s + 1) h))
+    by k low (inr l) =
+        ap (λ (x : SiteSums). x.tangent) (get_or-set_other sums (s + 1) k after no_sums (λ q. omega arith)) ∙ so_far.tangent k low (omega arith)

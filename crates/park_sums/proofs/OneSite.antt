@@ -8,18 +8,17 @@ use borrow.Author.Tests.{eq-eqb, ne_eqb}
 use lib.Dec.{eqb}
 use lib.IntN.{pos}
 use lib.ListN.{replicate}
-use Rattle.park_format.specs.Limits.{latest_version, most_mark}
 use Rattle.park_format.specs.Park.{inputs, select, transits}
 use Rattle.park_format.specs.declared.line.Line.{Line}
 use Rattle.park_sums.specs.Inner.Rows.{InputAt, IsNear, IsSiteSums, LineAt, Room, size, SmallLine, TransitAt, WithInput, WithTransit}
 use Rattle.park_sums.specs.declared.walk.SiteSums.{SiteSums}
-use Rattle.park_sums.proofs.Meters.{common_elsewhere, common_here, common_none}
+use Rattle.park_sums.proofs.Meters.{lacking_elsewhere, lacking_here, lacking_none}
 use Rattle.park_sums.proofs.Nets.{near_room, net_input_elsewhere, net_input_here, net_none, net_transit_elsewhere, net_transit_here, sum_room}
 
 -- no line yet
-pub sums_none : (k : ℕ) (s : SiteSums) → s.row ≡ replicate size (pos 0) → s.input_meters ≡ most_mark latest_version → s.transit_meters ≡ most_mark latest_version → IsSiteSums k s [] []
+pub sums_none : (k : ℕ) (s : SiteSums) → s.row ≡ replicate size (pos 0) → s.input_lacks ≡ 0 → s.transit_lacks ≡ 0 → IsSiteSums k s [] []
 unfolding select
-sums_none k s r i t = record { net = rw r net_none; inputs = rw i common_none; transits = rw t common_none }
+sums_none k s r i t = record { net = rw r net_none; inputs = rw i lacking_none; transits = rw t lacking_none }
 
 -- an input more
 module _ (k : ℕ) (lines outs : List Line) (l : Line) {before : SiteSums} (b : IsSiteSums k before lines outs) where
@@ -27,7 +26,7 @@ module _ (k : ℕ) (lines outs : List Line) (l : Line) {before : SiteSums} (b : 
   input_here e s =
       record {
         net = net_input_here k (transits k outs) lines l e b.net s.row;
-        inputs = rw s.inputs (common_here (λ (x : Line). eqb x.to k) lines l (eq-eqb l.to k e) b.inputs);
+        inputs = rw s.inputs (lacking_here (λ (x : Line). eqb x.to k) lines l (eq-eqb l.to k e) b.inputs);
         transits = rw s.transits b.transits;
       }
 
@@ -35,7 +34,7 @@ module _ (k : ℕ) (lines outs : List Line) (l : Line) {before : SiteSums} (b : 
   input_elsewhere n =
       record {
         net = net_input_elsewhere k (transits k outs) lines l n b.net;
-        inputs = common_elsewhere (λ (x : Line). eqb x.to k) lines l (ne_eqb l.to k n) b.inputs;
+        inputs = lacking_elsewhere (λ (x : Line). eqb x.to k) lines l (ne_eqb l.to k n) b.inputs;
         transits = b.transits;
       }
 
@@ -53,7 +52,7 @@ module _ (k : ℕ) (ins lines : List Line) (l : Line) {before : SiteSums} (b : I
       record {
         net = net_transit_here k (inputs k ins) lines l e b.net s.row;
         inputs = rw s.inputs b.inputs;
-        transits = rw s.transits (common_here (λ (x : Line). eqb x.from k) lines l (eq-eqb l.from k e) b.transits);
+        transits = rw s.transits (lacking_here (λ (x : Line). eqb x.from k) lines l (eq-eqb l.from k e) b.transits);
       }
 
   pub transit_elsewhere : (l.from ≡ k → ⊥) → IsSiteSums k before ins (lines ++ (l ∷ []))
@@ -61,7 +60,7 @@ module _ (k : ℕ) (ins lines : List Line) (l : Line) {before : SiteSums} (b : I
       record {
         net = net_transit_elsewhere k (inputs k ins) lines l n b.net;
         inputs = b.inputs;
-        transits = common_elsewhere (λ (x : Line). eqb x.from k) lines l (ne_eqb l.from k n) b.transits;
+        transits = lacking_elsewhere (λ (x : Line). eqb x.from k) lines l (ne_eqb l.from k n) b.transits;
       }
 
   transit_at : {after : SiteSums} → TransitAt k l before after → IsSiteSums k after ins (lines ++ (l ∷ []))

@@ -10,7 +10,8 @@ use park_format::line::Line;
 use park_format::records::Accepted;
 use std::hint::select_unpredictable;
 
-// What the generators of a site give together, in kWh, and how many they are.
+// What the generators of a site give together, in kWh, and how many they are: two sums, since an Option that is added up would need a case for the
+// first generator.
 #[derive(Clone, Copy)]
 struct Given {
     output: u64,

@@ -2,17 +2,16 @@
 ghost use Rattle.std.specs.Prelude.{◌≡◌, ℕ, ◌≤◌, ◌<◌, get_or, length, pos, ◌+ℤ◌, ◌-ℤ◌, nat_abs};
 ghost use Rattle.park_format.specs.Limits.{most_active, most_loss, most_losses, most_net};
 ghost use Rattle.park_charge.specs.Losses.{above_zero, split_sum};
-ghost use Rattle.park_sums.specs.Inner.Rows.{at, gains, losses, IsDifference, IsSum, Room, RoomForTangent, size, SmallLine, takes, takes_later, tangent_from};
+ghost use Rattle.park_sums.specs.Inner.Rows.{at, gains, losses, IsDifference, IsSum, Room, RoomForTangent, size, takes, takes_later, tangent_from};
 
+use crate::bounded::BoundedLine;
 use park_charge::Split;
-use park_format::line::Line;
-use park_format::meter::Meter;
 use std::array;
-use std::hint::select_unpredictable;
 
 // How many numbers it has.
 pub const SIZE: usize = 9;
 
+// An array whose places have names, and no struct: one step runs over all nine numbers.
 // Places: WP of the lines that count for the tangent, the reactive flow, WG and WN.
 pub const ACTIVE: usize = 0;
 
@@ -50,62 +49,7 @@ pub fn minus(sum: i64, less: u64) -> i64
     sum - less as i64
 }
 
-// What an input adds.
-fn gains(line: Line) -> [u64; SIZE]
-    requires { SmallLine line }
-    ensures { result ≡ gains line }
-{
-    let eerp = line.eerp as u64;
-    let active = line.active as u64;
-    let generated = line.generated as u64;
-    let night = line.night as u64;
-    let flow = park_charge::inflow(line.measures(Meter::Reactive), active, line.reactive as u64);
-    [
-        active,
-        flow,
-        generated,
-        night,
-        flow * eerp,
-        generated * eerp,
-        night * eerp,
-        eerp,
-        1,
-    ]
-}
-
-// What a transit takes in the first walk. A reading without its meter is 0 (rule 18), so only WP asks for one.
-fn takes(line: Line) -> [u64; SIZE]
-    requires { SmallLine line }
-    ensures { result ≡ takes line }
-{
-    let eerp = line.eerp as u64;
-    let reactive = line.reactive as u64;
-    let generated = line.generated as u64;
-    let night = line.night as u64;
-    let measured = select_unpredictable(line.measures(Meter::Reactive), line.active as u64, 0);
-    [
-        measured,
-        reactive,
-        generated,
-        night,
-        reactive * eerp,
-        generated * eerp,
-        night * eerp,
-        0,
-        0,
-    ]
-}
-
-// What a transit without a meter of reactive consumption takes in the second walk, by the tangent of its site.
-fn takes_later(tangent: u64, line: Line) -> [u64; SIZE]
-    requires { SmallLine line }
-    ensures { result ≡ takes_later tangent line }
-{
-    let active = select_unpredictable(!line.measures(Meter::Reactive), line.active as u64, 0);
-    let flow = park_charge::estimated_outflow(tangent, active);
-    [0, flow, 0, 0, flow * line.eerp as u64, 0, 0, 0, 0]
-}
-
+// That a row has room for a line, Room, no type can promise: each line uses some of it up.
 // A row with a step made at each of its places, by the number at that place.
 fn with_each<F: Fn(i64, u64) -> i64>(row: [i64; SIZE], numbers: [u64; SIZE], step: F) -> [i64; SIZE]
     requires { (i : ℕ) → i < size → F.pre step (at row i) (get_or numbers i 0) }
@@ -116,27 +60,27 @@ fn with_each<F: Fn(i64, u64) -> i64>(row: [i64; SIZE], numbers: [u64; SIZE], ste
 }
 
 // The row with one input more.
-pub fn with_input(row: [i64; SIZE], line: Line) -> [i64; SIZE]
-    requires { (Room row) × (SmallLine line) }
-    ensures { IsSum result row (gains line) }
+pub fn with_input(row: [i64; SIZE], bounded: BoundedLine) -> [i64; SIZE]
+    requires { Room row }
+    ensures { IsSum result row (gains bounded.line) }
 {
-    with_each(row, gains(line), plus)
+    with_each(row, bounded.gains(), plus)
 }
 
 // The row with one transit more, but for the flow of one without a meter.
-pub fn with_transit(row: [i64; SIZE], line: Line) -> [i64; SIZE]
-    requires { (Room row) × (SmallLine line) }
-    ensures { IsDifference result row (takes line) }
+pub fn with_transit(row: [i64; SIZE], bounded: BoundedLine) -> [i64; SIZE]
+    requires { Room row }
+    ensures { IsDifference result row (takes bounded.line) }
 {
-    with_each(row, takes(line), minus)
+    with_each(row, bounded.takes(), minus)
 }
 
 // The row less the flow of a transit without a meter.
-pub fn with_unmetered(row: [i64; SIZE], tangent: u64, line: Line) -> [i64; SIZE]
-    requires { (Room row) × (SmallLine line) }
-    ensures { IsDifference result row (takes_later tangent line) }
+pub fn with_unmetered(row: [i64; SIZE], tangent: u64, bounded: BoundedLine) -> [i64; SIZE]
+    requires { Room row }
+    ensures { IsDifference result row (takes_later tangent bounded.line) }
 {
-    with_each(row, takes_later(tangent, line), minus)
+    with_each(row, bounded.takes_later(tangent), minus)
 }
 
 // A number of a row, 0 where it is negative.

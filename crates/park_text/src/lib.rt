@@ -51,18 +51,26 @@ fn sites(count: usize, list: &[u64; NUMBERS], out: &mut Writer)
     }
 }
 
-// Writes the text of a refusal.
-pub fn refusal(r: Refusal, out: &mut [u8; ROOM]) -> usize
-    ensures { Starts (refusal_text (rule_number r.rule) r.place) out.old result out.new }
+// Writes the text of a refusal that is told by a number.
+pub fn refusal_by(number: u64, place: u64, out: &mut [u8; ROOM]) -> usize
+    ensures { Starts (refusal_text number place) out.old result out.new }
 {
     let mut line = Writer::new(out);
     line.bytes(b"refused");
-    line.fields(&[u64::from(r.rule), u64::from(r.place)]);
+    line.fields(&[number, place]);
     line.bytes(b"\n");
     line.size
 }
 
-// Writes the text of a bill of that many sites, or of as many as the list has room for.
+// Writes the text of a refusal.
+pub fn refusal(r: Refusal, out: &mut [u8; ROOM]) -> usize
+    ensures { Starts (refusal_text (rule_number r.rule) r.place) out.old result out.new }
+{
+    refusal_by(u64::from(r.rule), u64::from(r.place), out)
+}
+
+// Writes the text of a bill of that many sites, or of as many as the list has room for. The count stands beside a list of fixed size, since nothing
+// is allocated.
 pub fn bill(count: u64, list: &[u64; NUMBERS], out: &mut [u8; ROOM]) -> usize
     ensures { Starts (bill_text count list.now) out.old result out.new }
 {

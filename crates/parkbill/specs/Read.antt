@@ -9,7 +9,7 @@ use Rattle.std.specs.Io.KnownBytes.{Consumes, IsAtEnd}
 abbrev pub IsPrefixLen : ℕ → List ℕ → Type 0
 IsPrefixLen n xs = n ≤ length xs
 
--- one read more, after the first size bytes: they are kept, and as many are added as the read answers, or none if it fails
+-- one read more, after the first size bytes: they are kept, and what it answers is a number of bytes that fit
 pub record ReadMore {E : Type 0} (size : ℕ) (before : List ℕ) (r : Result ℕ E) (after : List ℕ) : Type 0 where
   pub kept : take size after ≡ take size before
   pub room : length after ≡ length before

@@ -12,7 +12,8 @@ use park_format::file;
 use std::io;
 use std::io::Read;
 
-// One byte more than the longest accepted file has, so that a longer input has the answer of those that are read.
+// One byte more than the longest accepted file has, so that a longer input has the answer of those that are read. Input and text have buffers of
+// fixed size, and functions answer how much of them counts, since nothing is allocated.
 const ROOM: usize = file::LONGEST + 1;
 
 // One read more, to the place after the bytes that were read before, which it keeps. It answers how many bytes it adds.

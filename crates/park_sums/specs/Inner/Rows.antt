@@ -1,15 +1,15 @@
--- What the walks over the lines add up for a site: a row of nine signed numbers, its inputs less its transits, and the meters that its lines share;
+-- What the walks over the lines add up for a site: a row of nine signed numbers, its inputs less its transits, and the meters that its lines lack;
 -- and what its generators give.
 -- Assumes nothing.
 use Rattle.std.specs.Prelude.{ℕ, ◌+◌, ◌*◌, ◌≤◌, ◌<◌, ◌≡◌, Bool, cond, not, List, [], ◌∷◌, ℤ, pos, ◌+ℤ◌, ◌-ℤ◌, nat_abs, length, get_or, set}
-use Rattle.std.specs.Int.Bits.{bit_and}
+use Rattle.std.specs.Int.Bits.{bit_or, bit_xor}
 use Rattle.park_sums.specs.Sums.{all_of, sum_by}
 use Rattle.park_sums.specs.declared.own.Given.{Given}
 use Rattle.park_sums.specs.declared.walk.SiteSums.{SiteSums}
 use Rattle.park_sums.specs.Flows.{flow_in, loss_in, outputs, produced}
 use Rattle.park_charge.specs.Flow.{estimated_out, tangent}
 use Rattle.park_charge.specs.Losses.{above_zero}
-use Rattle.park_format.specs.Limits.{most_eerp, most_losses, most_net, most_reading, most_readings, most_sites}
+use Rattle.park_format.specs.Limits.{latest_version, most_eerp, most_losses, most_mark, most_net, most_reading, most_readings, most_sites}
 use Rattle.park_format.specs.Park.{generators_at, inputs, Park, transits}
 use Rattle.park_format.specs.Rules.{is_empty, measures_generated, measures_night, measures_reactive}
 use Rattle.park_format.specs.declared.generator.Generator.{Generator}
@@ -150,10 +150,14 @@ pub record GivenAt (site : ℕ) (g : Generator) (before after : Given) : Type 0 
   pub elsewhere : (g.site ≡ site → ⊥) → after ≡ before
   pub here : g.site ≡ site → after ≡ record { output = before.output + g.output; count = before.count + 1 }
 
--- the marks of what all these lines measure of generation
-pub record Common (mark : ℕ) (lines : List Line) : Type 0 where
-  pub generated : measures_generated mark ≡ all_of (λ (l : Line). measures_generated l.meters) lines
-  pub night : measures_night mark ≡ all_of (λ (l : Line). measures_night l.meters) lines
+-- the meters that a line lacks
+abbrev pub lacked : Line → ℕ
+lacked l = bit_xor (most_mark latest_version) l.meters
+
+-- the meters of generation that some of these lines lack: a meter that is none of them is one of every line
+pub record Lacking (lacks : ℕ) (lines : List Line) : Type 0 where
+  pub generated : not (measures_generated lacks) ≡ all_of (λ (l : Line). measures_generated l.meters) lines
+  pub night : not (measures_night lacks) ≡ all_of (λ (l : Line). measures_night l.meters) lines
 
 -- rows of the first walk, with room for the second
 pub record IsNear (row : List ℤ) : Type 0 where
@@ -162,7 +166,7 @@ pub record IsNear (row : List ℤ) : Type 0 where
 
 -- what stands for a site past the last
 abbrev pub no_sums : SiteSums
-no_sums = record { row = []; input_meters = 0; transit_meters = 0 }
+no_sums = record { row = []; tangent = 0; input_lacks = 0; transit_lacks = 0 }
 
 abbrev pub sums_at : List SiteSums → ℕ → SiteSums
 sums_at sums k = get_or sums k no_sums
@@ -170,8 +174,8 @@ sums_at sums k = get_or sums k no_sums
 -- what the first walk adds up for one site, of the inputs among some lines and the transits among others
 pub record IsSiteSums (k : ℕ) (s : SiteSums) (into out : List Line) : Type 0 where
   pub net : IsNet s.row (inputs k into) (transits k out)
-  pub inputs : Common s.input_meters (inputs k into)
-  pub transits : Common s.transit_meters (transits k out)
+  pub inputs : Lacking s.input_lacks (inputs k into)
+  pub transits : Lacking s.transit_lacks (transits k out)
 
 -- and for every site, and for the network at 0
 pub record AreSums (sums : List SiteSums) (into out : List Line) : Type 0 where
@@ -179,31 +183,31 @@ pub record AreSums (sums : List SiteSums) (into out : List Line) : Type 0 where
   pub site : (k : ℕ) → k < places → IsSiteSums k (sums_at sums k) into out
 
 -- less what the second walk takes, each site by its tangent
-pub record AreLess (tangents : List ℕ) (sums before : List SiteSums) (lines : List Line) : Type 0 where
+pub record AreLess (sums before : List SiteSums) (lines : List Line) : Type 0 where
   pub sites : length sums ≡ places
-  pub row : (k : ℕ) → k < places → IsLess (get_or tangents k 0) (sums_at sums k).row (sums_at before k).row (transits k lines)
-  pub input_meters : (k : ℕ) → k < places → (sums_at sums k).input_meters ≡ (sums_at before k).input_meters
-  pub transit_meters : (k : ℕ) → k < places → (sums_at sums k).transit_meters ≡ (sums_at before k).transit_meters
+  pub row : (k : ℕ) → k < places → IsLess (sums_at before k).tangent (sums_at sums k).row (sums_at before k).row (transits k lines)
+  pub rest : (k : ℕ) → k < places → sums_at sums k ≡ record (sums_at before k) { row = (sums_at sums k).row }
 
 pub record AreNear (sums : List SiteSums) : Type 0 where
   pub sites : length sums ≡ places
   pub row : (k : ℕ) → k < places → IsNear (sums_at sums k).row
 
--- the tangents of sites 1 to s, with the generators of each
-pub record AreTangents (tangents : List ℕ) (sums : List SiteSums) (p : Park) (s : ℕ) : Type 0 where
-  pub sites : length tangents ≡ places
-  pub tangent : (k : ℕ) → 1 ≤ k → k ≤ s → get_or tangents k 0 ≡ tangent_from (more_at k p) (sums_at sums k).row
+-- the same sums, but with the tangents of sites 1 to s, by the generators of each
+pub record AreTangents (sums before : List SiteSums) (p : Park) (s : ℕ) : Type 0 where
+  pub sites : length sums ≡ places
+  pub tangent : (k : ℕ) → 1 ≤ k → k ≤ s → (sums_at sums k).tangent ≡ tangent_from (more_at k p) (sums_at before k).row
+  pub rest : (k : ℕ) → k < places → sums_at sums k ≡ record (sums_at before k) { tangent = (sums_at sums k).tangent }
 
 -- the sums of a site with one line more, as an input, and as a transit
 pub record WithInput (l : Line) (before after : SiteSums) : Type 0 where
   pub row : IsSum after.row before.row (gains l)
-  pub inputs : after.input_meters ≡ bit_and before.input_meters l.meters
-  pub transits : after.transit_meters ≡ before.transit_meters
+  pub inputs : after.input_lacks ≡ bit_or before.input_lacks (lacked l)
+  pub transits : after.transit_lacks ≡ before.transit_lacks
 
 pub record WithTransit (l : Line) (before after : SiteSums) : Type 0 where
   pub row : IsDifference after.row before.row (takes l)
-  pub inputs : after.input_meters ≡ before.input_meters
-  pub transits : after.transit_meters ≡ bit_and before.transit_meters l.meters
+  pub inputs : after.input_lacks ≡ before.input_lacks
+  pub transits : after.transit_lacks ≡ bit_or before.transit_lacks (lacked l)
 
 -- a line added at both its ends
 pub record AddsLine (l : Line) (before after : List SiteSums) : Type 0 where

@@ -3,21 +3,22 @@ use mathlib.Core.Path.{ap₂}
 use Rattle.park_format.proofs.Sizes.{latest_sizes}
 use Rattle.park_format.specs.Rules.{rule_number}
 use Rattle.park_format.specs.declared.rule.Refusal.{Refusal}
-use Rattle.park_bill.specs.Reply.{list_after, park_answer, park_outcome}
+use Rattle.park_format.specs.Call.{reply_of}
+use Rattle.park_bill.specs.Reply.{list_after, park_outcome}
 use Rattle.park_text.specs.Answer.{answer_text, answer_to, unwritten}
 use Rattle.park_text.specs.Text.{bill_text, refusal_text}
 use Rattle.parkbill.specs.declared.TheConstants.{ROOM}
 use Rattle.parkbill.proofs.Inputs.{every}
 use Rattle.parkbill.proofs.answer.Goals as goal
 
-module _ (file : List ℕ) {reply : Result ℕ Refusal} (answers : park_answer reply ≡ park_outcome file unwritten) where
+module _ (file : List ℕ) {reply : Result ℕ Refusal} (answers : reply_of reply ≡ park_outcome file unwritten) where
   refused : {r : Refusal} → reply ≡ Err r → refusal_text (rule_number r.rule) r.place ≡ answer_to file
   unfolding answer_to
-  refused e = ap (λ o. answer_text o (list_after file unwritten)) (ap park_answer (sym e) ∙ answers)
+  refused e = ap (λ o. answer_text o (list_after file unwritten)) (ap reply_of (sym e) ∙ answers)
 
   billed : {s : ℕ} {list : List ℕ} → reply ≡ Ok s → list ≡ list_after file unwritten → bill_text s list ≡ answer_to file
   unfolding answer_to
-  billed e written = ap₂ answer_text (ap park_answer (sym e) ∙ answers) written
+  billed e written = ap₂ answer_text (ap reply_of (sym e) ∙ answers) written
 
 pub returns-in-Ok-clause-text : goal.returns-in-Ok-clause-text
 returns-in-Ok-clause-text c =

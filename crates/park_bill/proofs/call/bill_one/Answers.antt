@@ -34,10 +34,9 @@ bill_at-requires g c =
     let few = all_few p (park_kept p (g.met.P.Records.recorded c.args.park.now) (g.met.P.Accepted.kept c.args.park.now)) in
     let there = within p.header.sites c.args.site (sym (rw (c.if-is_missing.false, c.header.ensures) at c.is_missing.ensures)) in
     let sums = c.site_sums-sums in
-    let after : SiteSums = record { row = c.site_after_transits-row.result; input_meters = sums.result.input_meters; transit_meters = sums.result.transit_meters } in
-    let tangent = c.tangent-tangent.result in
+    let after : SiteSums = record sums.result { row = c.site_after_transits-row.result; tangent = c.tangent-tangent.result } in
     let whole = read_whole c.more_at.result (near_fits c.more_at.result c.more_at.ensures.most) ∙ c.more_at.ensures.more in
-    let made : IsSite (touching c.args.site p) after tangent =
-    made_site p few c.args.site sums.ensures.net after tangent c.site_after_transits-row.ensures
+    let made : IsSite (touching c.args.site p) after =
+    made_site p few c.args.site sums.ensures.net after c.site_after_transits-row.ensures
     (c.tangent-tangent.ensures ∙ ap (λ (z : ℤ). tangent_from z sums.result.row) whole) sums.ensures.inputs sums.ensures.transits in
-    (omega (arith, there), subst (λ (k : ℕ). IsSite (touching k p) after tangent) (sym (counted c.args.site there.0)) made)
+    (omega (arith, there), subst (λ (k : ℕ). IsSite (touching k p) after) (sym (counted c.args.site there.0)) made)

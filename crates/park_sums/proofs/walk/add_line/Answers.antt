@@ -3,4 +3,5 @@ use Rattle.park_sums.proofs.walk.add_line.Goals as goal
 
 pub with_transit-requires : goal.with_transit-requires
 with_transit-requires c =
-    (both_room c.args.sums.now c.args.line c.requires.small c.requires.near c.requires.ends.0 c.with_input.ensures _ c.requires.ends.1, c.requires.small)
+    let bounded = c.args.bounded in
+    both_room c.args.sums.now bounded.line bounded.small c.requires bounded.ends.0 c.with_input.ensures _ bounded.ends.1

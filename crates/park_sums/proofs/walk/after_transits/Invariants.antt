@@ -5,4 +5,4 @@ use Rattle.park_sums.proofs.walk.after_transits.Given as goal
 -- the transits among the first i lines are taken
 abbrev pub invariant-loop-i : goal.invariant-loop-i
 invariant-loop-i g l =
-    AreLess l.tangents l.sums l.fn.sums (take l.i (g.P.Records.park l.park).lines)
+    AreLess l.sums l.fn.sums (take l.i (g.P.Records.park l.park).lines)

@@ -1,10 +1,10 @@
 use Rattle.std.proofs.Common.{rules}
 use Rattle.park_text.specs.Text.{refusal_text}
 use Rattle.park_text.proofs.Writers.{starts, writes_then}
-use Rattle.park_text.proofs.refusal.Goals as goal
+use Rattle.park_text.proofs.refusal_by.Goals as goal
 
 pub returns : goal.returns
 unfolding refusal_text
 returns c =
-    let text = writes_then c.bytes.ensures (writes_then (rw (c.from.ensures, c.from-2.ensures) at c.fields.ensures.text) c.bytes-2.ensures) in
+    let text = writes_then c.bytes.ensures (writes_then c.fields.ensures.text c.bytes-2.ensures) in
     starts c.new-line.ensures text (search rules)
