@@ -16,7 +16,8 @@ use park_format::rule::{Refusal, Rule};
 use park_sums::walk::SiteSums;
 use park_sums::{own, row, walk};
 
-// Whether a site that is asked for is not one of the park: zero_or_above for 64 bits, since a number narrowed first needs a second exit.
+// Whether a site that is asked for is not one of the park: zero_or_above for 64 bits, since a number narrowed first
+// needs a second exit, and with 64 bits there each rule would widen its number first.
 fn is_missing(site: u64, sites: u32) -> bool
     ensures { result ≡ zero_or_above sites site }
 {

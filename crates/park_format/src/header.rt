@@ -18,7 +18,7 @@ use crate::{number, rule};
 pub struct Header {
     // The three letters of the file's mark, as a number.
     pub mark: u32,
-    // Versions stay a number here: a header is read before rule 3 is asked.
+    // A number, since a header is read before rule 3 is asked: an enum would need a case for every wrong one.
     pub version: u32,
     pub month: u32,
     // How many sites (s) and lines (n) the file has.
@@ -100,7 +100,7 @@ impl Header {
         Header::LATER_LEN
     }
 
-    // How many generators a file states: 0 in version 1, and where the file ends before it says.
+    // By the version that a file states, as len. How many generators a file states: 0 in version 1, and where the file ends before it says.
     #[tactic(auto, unfolding(crate::specs::Format::number_at))]
     fn generators_of(file: &[u8], version: u32) -> u32
         ensures { result ≡ cond (eqb version 1) 0 (number_at 1 file.now 14) }

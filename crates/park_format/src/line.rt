@@ -14,10 +14,12 @@ use crate::{number, rule};
 
 #[derive(Clone, Copy, Debug, PartialEq, Eq)]
 pub struct Line {
-    // The site that the line comes from, and the one it goes to; 0 is the network. They are read before rules 14, 23 and 24 are asked.
+    // The site that the line comes from, and the one it goes to; 0 is the network. Numbers, since they are read before rules 14, 23 and
+    // 24 are asked.
     pub from: u32,
     pub to: u32,
-    // The meter mark, the sum of its meters; any number, since it is read before rule 15 is asked.
+    // The meter mark, the sum of its meters; any number, since it is read before rule 15 is asked, and an enum would need a case for every
+    // wrong one.
     pub meters: u32,
     // D, ten-thousandths of kW/kVAr.
     pub eerp: u32,
@@ -58,6 +60,7 @@ impl Line {
 
     pub const MOST_READING: u32 = 10_000_000;
 
+    // By the version that a file states, as Header::len, here and in the next two.
     // The bytes of as many lines.
     #[tactic(auto, unfolding(crate::specs::Format::line_size))]
     pub fn bytes(version: u32, count: usize) -> usize

@@ -14,7 +14,8 @@ use crate::{number, rule};
 pub struct Site {
     // Permitted power, kW.
     pub power: u32,
-    // The flag: 1 if compensation or generating devices exist, else 0; a number, since it is read before rule 11 is asked.
+    // The flag: 1 if compensation or generating devices exist, else 0; a number, since it is read before rule 11 is asked, and an enum
+    // would need a case for every wrong one.
     pub devices: u32,
     // Installed compensation Q, kVAr.
     pub compensation: u32,

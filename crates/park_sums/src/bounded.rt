@@ -9,19 +9,19 @@ use park_format::meter::Meter;
 use park_format::records::Accepted;
 use std::hint::select_unpredictable;
 
-// A line of small numbers, whose ends are places among the sums.
+// A line of small numbers.
 #[derive(Clone, Copy)]
 pub struct BoundedLine {
     pub line: Line,
     pub ghost small: { SmallLine line },
-    pub ghost ends: { (line.to < places) × (line.from < places) },
 }
 
 impl BoundedLine {
-    // Line i of an accepted park, counted from 0.
+    // Line i of an accepted park, counted from 0, whose ends are places among the sums.
     pub fn of<P: Accepted>(park: &P, i: u32) -> BoundedLine
         requires { i < (P.park park.now).header.lines }
-        ensures { result.line ≡ get_or (P.park park.now).lines i no_line }
+        ensures line { result.line ≡ get_or (P.park park.now).lines i no_line }
+        ensures ends { (result.line.to < places) × (result.line.from < places) }
     {
         BoundedLine { line: park.line(i) }
     }

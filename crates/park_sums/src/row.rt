@@ -33,6 +33,7 @@ pub const EERP: usize = 7;
 
 pub const COUNT: usize = 8;
 
+// The two steps that with_each takes.
 // A sum with a number added to it.
 pub fn plus(sum: i64, more: u64) -> i64
     requires { (nat_abs sum ≤ most_net) × (more ≤ most_loss) }
@@ -59,6 +60,7 @@ fn with_each<F: Fn(i64, u64) -> i64>(row: [i64; SIZE], numbers: [u64; SIZE], ste
     array::from_fn(|i| step(row[i], numbers[i]))
 }
 
+// What is added or taken off differs here, and the step; one function that is told which would be longer.
 // The row with one input more.
 pub fn with_input(row: [i64; SIZE], bounded: BoundedLine) -> [i64; SIZE]
     requires { Room row }

@@ -2,7 +2,7 @@
 ghost use Rattle.std.specs.Prelude.{◌≡◌, [], ◌<◌};
 ghost use Rattle.park_format.specs.Park.{transits};
 ghost use Rattle.park_sums.specs.Sums.{EachSite};
-ghost use Rattle.park_sums.specs.Inner.Rows.{AddsLine, AreLess, AreNear, AreSums, AreTangents, InputAt, IsLess, IsNear, IsSiteSums, LessAt, LineAt, Room, RoomForTangent, sums_at, TransitAt, WithInput, WithTransit};
+ghost use Rattle.park_sums.specs.Inner.Rows.{AddsLine, AreLess, AreNear, AreSums, AreTangents, InputAt, IsLess, IsNear, IsSiteSums, LessAt, LineAt, places, Room, RoomForTangent, sums_at, TransitAt, WithInput, WithTransit};
 
 use crate::bounded::BoundedLine;
 use crate::{own, row};
@@ -17,9 +17,10 @@ pub const PLACES: usize = Header::MOST_SITES as usize + 1;
 #[derive(Clone, Copy, Debug, PartialEq, Eq)]
 pub struct SiteSums {
     pub row: [i64; row::SIZE],
-    // 0 until it is known.
+    // 0 until it is known: an Option would need a case in each step that takes it.
     pub tangent: u64,
-    // The meters that an input of the site lacks, and a transit, as in a meter mark: zeros at the start, which are made the fastest.
+    // The meters that an input of the site lacks, and a transit, as in a meter mark, since one | takes all four: zeros at the start, which are
+    // made the fastest.
     pub input_lacks: u32,
     pub transit_lacks: u32,
 }
@@ -33,6 +34,8 @@ impl SiteSums {
         transit_lacks: 0,
     };
 
+    // Inputs and transits have a method each, here and below: they differ in the end of the line that is asked and in what it adds, and one that
+    // is told which would be longer.
     // The sums with one input more.
     fn with_input(self, bounded: BoundedLine) -> SiteSums
         requires { Room self.row }
@@ -57,7 +60,6 @@ impl SiteSums {
         }
     }
 
-    // Inputs and transits have a method each here: they differ in the end of the line that is asked and in what it adds.
     // The sums of a site with one line more, which may be an input of it.
     fn input_of(self, site: u32, bounded: BoundedLine) -> SiteSums
         requires { Room self.row }
@@ -95,7 +97,8 @@ impl SiteSums {
 
 // Adds a line to the sums at both its ends.
 fn add_line(bounded: BoundedLine, sums: &mut [SiteSums; PLACES])
-    requires { AreNear sums.old }
+    requires near { AreNear sums.old }
+    requires ends { (bounded.line.to < places) × (bounded.line.from < places) }
     ensures { AddsLine bounded.line sums.old sums.new }
 {
     let to = bounded.line.to as usize;

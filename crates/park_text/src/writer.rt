@@ -5,6 +5,7 @@ ghost use Rattle.std.specs.Prelude.{◌≡◌, ◌+◌, ◌*◌, ◌≤◌, leng
 use crate::ROOM;
 use itoa::Buffer;
 
+// Each method asks for the room of its text, which no type can promise: each text uses some of it up.
 #[derive(Drop)]
 pub struct Writer<'a> {
     out: &'a mut [u8; ROOM],

@@ -9,7 +9,7 @@ use Rattle.park_sums.proofs.walk.after_transits.Goals.{After-of-bounded}
 turned : (g : Over) (c : After-of-bounded g) → Turn (g.P.Records.park c.args.park.now) c.loop-i.i c.of-bounded.result.line
 turned g c =
     let x = c.args.park.now in
-    turn (g.P.Records.park x) (g.met.P.Records.recorded x) (g.met.P.Accepted.kept x) c.header-i-end.ensures c.loop-i-test.true c.of-bounded.ensures
+    turn (g.P.Records.park x) (g.met.P.Records.recorded x) (g.met.P.Accepted.kept x) c.header-i-end.ensures c.loop-i-test.true c.of-bounded.ensures.line
 
 pub loop-i-init : goal.loop-i-init
 loop-i-init g c = all_less_none _ c.requires

@@ -9,7 +9,7 @@ use Rattle.park_sums.proofs.walk.site_after_transits.Goals.{After-of}
 turned : (g : Over) (c : After-of g) → Turn (g.P.Records.park c.args.park.now) c.loop-i.i c.of.result.line
 turned g c =
     let x = c.args.park.now in
-    turn (g.P.Records.park x) (g.met.P.Records.recorded x) (g.met.P.Accepted.kept x) c.header-i-end.ensures c.loop-i-test.true c.of.ensures
+    turn (g.P.Records.park x) (g.met.P.Records.recorded x) (g.met.P.Accepted.kept x) c.header-i-end.ensures c.loop-i-test.true c.of.ensures.line
 
 pub loop-i-init : goal.loop-i-init
 unfolding select

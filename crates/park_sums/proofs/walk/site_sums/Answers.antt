@@ -10,7 +10,7 @@ use Rattle.park_sums.proofs.walk.site_sums.Goals.{After-of}
 turned : (g : Over) (c : After-of g) → Turn (g.P.Records.park c.args.park.now) c.loop-i.i c.of.result.line
 turned g c =
     let x = c.args.park.now in
-    turn (g.P.Records.park x) (g.met.P.Records.recorded x) (g.met.P.Accepted.kept x) c.header-i-end.ensures c.loop-i-test.true c.of.ensures
+    turn (g.P.Records.park x) (g.met.P.Records.recorded x) (g.met.P.Accepted.kept x) c.header-i-end.ensures c.loop-i-test.true c.of.ensures.line
 
 pub loop-i-init : goal.loop-i-init
 loop-i-init g c = sums_none _ _ refl refl refl

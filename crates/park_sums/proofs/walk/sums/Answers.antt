@@ -8,10 +8,10 @@ use Rattle.park_sums.proofs.walk.sums.Goals.{After-of}
 turned : (g : Over) (c : After-of g) → Turn (g.P.Records.park c.args.park.now) c.loop-i.i c.of.result.line
 turned g c =
     let x = c.args.park.now in
-    turn (g.P.Records.park x) (g.met.P.Records.recorded x) (g.met.P.Accepted.kept x) c.header-i-end.ensures c.loop-i-test.true c.of.ensures
+    turn (g.P.Records.park x) (g.met.P.Records.recorded x) (g.met.P.Accepted.kept x) c.header-i-end.ensures c.loop-i-test.true c.of.ensures.line
 
-pub add_line-requires : goal.add_line-requires
-add_line-requires g c = sums_near _ c.loop-i.invariant (turned g (goal.at-add_line-requires g c).After-of).earlier
+pub add_line-requires-clause-near : goal.add_line-requires-clause-near
+add_line-requires-clause-near g c = sums_near _ c.loop-i.invariant (turned g (goal.at-add_line-requires-clause-near g c).After-of).earlier
 
 pub loop-i-init : goal.loop-i-init
 loop-i-init g c = sums_fresh
