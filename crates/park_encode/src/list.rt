@@ -49,8 +49,6 @@ pub struct List<'a> {
 }
 
 impl<'a> Records for List<'a> {
-    ghost use Rattle.std.specs.Prelude.{◌≡◌, ◌<◌, get_or};
-    ghost use Rattle.park_format.specs.Park.{no_generator, no_line, no_site};
     ghost use Rattle.park_encode.specs.Numbers.{list_park};
 
     ghost park = { λ l. list_park l.numbers.now };

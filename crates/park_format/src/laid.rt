@@ -25,8 +25,7 @@ pub struct Laid<'a, const VERSION: u32> {
 }
 
 impl<'a, const VERSION: u32> Records for Laid<'a, VERSION> {
-    ghost use Rattle.std.specs.Prelude.{◌≡◌, ◌<◌, get_or};
-    ghost use Rattle.park_format.specs.Park.{no_generator, no_line, no_site, park_of};
+    ghost use Rattle.park_format.specs.Park.{park_of};
 
     ghost park = { λ f. park_of f.bytes.now };
 

@@ -1,5 +1,5 @@
 // The walks over the lines of an accepted park: the first adds up what needs no tangent, the second takes off the transits without a meter.
-ghost use Rattle.std.specs.Prelude.{◌≡◌, [], ◌<◌};
+ghost use Rattle.std.specs.Prelude.{◌<◌};
 ghost use Rattle.park_format.specs.Park.{transits};
 ghost use Rattle.park_sums.specs.Sums.{EachSite};
 ghost use Rattle.park_sums.specs.Inner.Rows.{AddsLine, AreLess, AreNear, AreSums, AreTangents, InputAt, IsLess, IsNear, IsSiteSums, LessAt, LineAt, places, Room, RoomForTangent, sums_at, TransitAt, WithInput, WithTransit};

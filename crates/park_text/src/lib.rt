@@ -3,10 +3,9 @@
 
 mod writer;
 
-ghost use Rattle.std.specs.Prelude.{◌≡◌, ◌+◌, ◌*◌, ◌≤◌, ◌<◌, length};
+ghost use Rattle.std.specs.Prelude.{◌+◌, ◌*◌, ◌≤◌, ◌<◌};
 ghost use Rattle.park_format.specs.Limits.{most_sites};
 ghost use Rattle.park_format.specs.Rules.{rule_number};
-ghost use Rattle.park_bill.specs.Bill.{bill_numbers};
 ghost use Rattle.park_text.specs.Buffer.{Starts};
 ghost use Rattle.park_text.specs.Inner.Writer.{Writes};
 ghost use Rattle.park_text.specs.Text.{bill_text, refusal_text, site_text, sites_text};

@@ -1,6 +1,6 @@
 // A text that is written piece by piece into a lent buffer. A Cursor of the standard library would do, but no contract says that its writes
 // keep to the slice that was lent, and those of write! may fail.
-ghost use Rattle.std.specs.Prelude.{◌≡◌, ◌+◌, ◌*◌, ◌≤◌, length};
+ghost use Rattle.std.specs.Prelude.{◌+◌, ◌*◌, ◌≤◌, length};
 
 use crate::ROOM;
 use itoa::Buffer;
