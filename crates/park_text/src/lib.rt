@@ -5,14 +5,12 @@ mod writer;
 
 ghost use Rattle.std.specs.Prelude.{◌+◌, ◌*◌, ◌≤◌, ◌<◌};
 ghost use Rattle.park_format.specs.Limits.{most_sites};
-ghost use Rattle.park_format.specs.Rules.{rule_number};
 ghost use Rattle.park_text.specs.Buffer.{Starts};
 ghost use Rattle.park_text.specs.Inner.Writer.{Writes};
 ghost use Rattle.park_text.specs.Text.{bill_text, refusal_text, site_text, sites_text};
 
 use park_bill::bill::Bill;
 use park_format::header::Header;
-use park_format::rule::Refusal;
 use writer::Writer;
 
 // Room for every answer: the line of names has 68 bytes, and each of 16 lines at most 234.
@@ -50,8 +48,8 @@ fn sites(count: usize, list: &[u64; NUMBERS], out: &mut Writer)
     }
 }
 
-// Writes the text of a refusal that is told by a number.
-pub fn refusal_by(number: u64, place: u64, out: &mut [u8; ROOM]) -> usize
+// Writes the text of a refusal by a number, at a place.
+pub fn refusal(number: u64, place: u64, out: &mut [u8; ROOM]) -> usize
     ensures { Starts (refusal_text number place) out.old result out.new }
 {
     let mut line = Writer::new(out);
@@ -59,13 +57,6 @@ pub fn refusal_by(number: u64, place: u64, out: &mut [u8; ROOM]) -> usize
     line.fields(&[number, place]);
     line.bytes(b"\n");
     line.size
-}
-
-// Writes the text of a refusal.
-pub fn refusal(r: Refusal, out: &mut [u8; ROOM]) -> usize
-    ensures { Starts (refusal_text (rule_number r.rule) r.place) out.old result out.new }
-{
-    refusal_by(u64::from(r.rule), u64::from(r.place), out)
 }
 
 // Writes the text of a bill of that many sites, or of as many as the list has room for. The count stands beside a list of fixed size, since nothing

@@ -48,7 +48,7 @@ fn answer(bytes: &[u8], text: &mut [u8; park_text::ROOM]) -> usize
     let mut list = [0u64; park_text::NUMBERS];
     match park_bill::bill_park(bytes, &mut list) {
         Ok(sites) => park_text::bill(sites, &list, text),
-        Err(refusal) => park_text::refusal(refusal, text),
+        Err(refusal) => park_text::refusal(u64::from(refusal.rule), u64::from(refusal.place), text),
     }
 }
 

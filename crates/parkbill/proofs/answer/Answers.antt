@@ -12,9 +12,9 @@ use Rattle.parkbill.proofs.Inputs.{every}
 use Rattle.parkbill.proofs.answer.Goals as goal
 
 module _ (file : List ℕ) {reply : Result ℕ Refusal} (answers : reply_of reply ≡ park_outcome file unwritten) where
-  refused : {r : Refusal} → reply ≡ Err r → refusal_text (rule_number r.rule) r.place ≡ answer_to file
+  refused : {r : Refusal} {number place : ℕ} → reply ≡ Err r → number ≡ rule_number r.rule → place ≡ r.place → refusal_text number place ≡ answer_to file
   unfolding answer_to
-  refused e = ap (λ o. answer_text o (list_after file unwritten)) (ap reply_of (sym e) ∙ answers)
+  refused e told at = ap₂ refusal_text told at ∙ ap (λ o. answer_text o (list_after file unwritten)) (ap reply_of (sym e) ∙ answers)
 
   billed : {s : ℕ} {list : List ℕ} → reply ≡ Ok s → list ≡ list_after file unwritten → bill_text s list ≡ answer_to file
   unfolding answer_to
@@ -26,4 +26,4 @@ returns-in-Ok-clause-text c =
 
 pub returns-in-Err-clause-text : goal.returns-in-Err-clause-text
 returns-in-Err-clause-text c =
-    every ROOM c.args.bytes.now (omega (arith, latest_sizes)) c.refusal.ensures (refused c.args.bytes.now c.bill_park.ensures.reply c.in-Err.is)
+    every ROOM c.args.bytes.now (omega (arith, latest_sizes)) c.refusal.ensures (refused c.args.bytes.now c.bill_park.ensures.reply c.in-Err.is c.from.ensures c.from-in-Err.ensures)

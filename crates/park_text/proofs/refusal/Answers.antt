@@ -1,7 +1,7 @@
 use Rattle.std.proofs.Common.{rules}
 use Rattle.park_text.specs.Text.{refusal_text}
 use Rattle.park_text.proofs.Writers.{starts, writes_then}
-use Rattle.park_text.proofs.refusal_by.Goals as goal
+use Rattle.park_text.proofs.refusal.Goals as goal
 
 pub returns : goal.returns
 unfolding refusal_text
