@@ -46,10 +46,11 @@ fn answer(bytes: &[u8], text: &mut [u8; park_text::ROOM]) -> usize
     ensures within { IsPrefixLen result text.new }
 {
     let mut list = [0u64; park_text::NUMBERS];
-    match park_bill::bill_park(bytes, &mut list) {
-        Ok(sites) => park_text::bill(sites, &list, text),
-        Err(refusal) => park_text::refusal(u64::from(refusal.rule), u64::from(refusal.place), text),
-    }
+    let reply = park_bill::bill_park(bytes, &mut list);
+    let Err(refusal) = reply else {
+        return park_text::bill(reply.unwrap_or(0), &list, text);
+    };
+    park_text::refusal(u64::from(refusal.rule), u64::from(refusal.place), text)
 }
 
 // Puts the answer to an input at the start of text, and answers its size.
