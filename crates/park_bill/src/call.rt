@@ -24,7 +24,9 @@ fn is_missing(site: u64, sites: u32) -> bool
     !(1..=u64::from(sites)).contains(&site)
 }
 
-// The bill of site k of a park, counted from 0, from what both walks left for it.
+// The bill of site k of a park, counted from 0, from what both walks left for it. Inlined where the bill is replied or written, since one that is
+// passed in memory makes bill_site of the smallest park a sixth slower.
+#[inline(always)]
 fn bill_at<P: Accepted>(park: &P, k: u32, sums: SiteSums) -> Bill
     requires { (k < (P.park park.now).header.sites) × (IsSite (touching (k + 1) (P.park park.now)) sums) }
     ensures { result ≡ bill (P.park park.now) (k + 1) }

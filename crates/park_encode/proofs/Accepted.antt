@@ -1,7 +1,7 @@
 -- What an accepted list guarantees: its count is right, and its park keeps every rule and fits a file.
 -- Assumes nothing.
 use Prim.Native.Nat.{ℕ}
-use mathlib.Core.Path.{◌≡◌, refl}
+use mathlib.Core.Path.{◌≡◌, refl, sym}
 use mathlib.Core.List.{List}
 use lib.ListN.{length}
 use borrow.Author.Tests.{eqb-true, not-false}
@@ -13,7 +13,9 @@ use Rattle.park_format.proofs.Accepted.{kept_park, Parts, parts, right_length}
 use Rattle.park_format.proofs.Fits.{kept_fits}
 use Rattle.park_format.proofs.Lists.{Every-list_of, length-list_of}
 use Rattle.park_encode.specs.Encode.{has_too_few, has_wrong_count, IsAcceptedList, list_refusal, list_rules, made_size}
+use Rattle.park_encode.specs.Inner.Counted.{Counted}
 use Rattle.park_encode.specs.Numbers.{list_count, list_header, list_line, list_park, list_site}
+use Rattle.park_encode.proofs.Table.{counted}
 
 pub site_count_lem : (numbers : List ℕ) → length (list_park numbers).sites ≡ (list_park numbers).header.sites
 unfolding list_park
@@ -43,6 +45,10 @@ module _ (numbers : List ℕ) (accepted : IsAcceptedList numbers) where
 
   pub list_count_lem : length numbers ≡ list_count (list_header numbers).sites (list_header numbers).lines
   list_count_lem = eqb-true (length numbers) _ (not-false _ (right_length (has_wrong_count numbers) (list_park numbers).header list_parts.header))
+
+  pub counted_list : Counted (list_header numbers) (length numbers)
+  unfolding list_park
+  counted_list = counted numbers (sym list_parts.header)
 
   pub list_kept : Kept (made_size numbers) (list_park numbers)
   unfolding list_park

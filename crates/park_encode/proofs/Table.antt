@@ -36,8 +36,11 @@ module _ (numbers : List ℕ) where
   list_refuses long e = header_refuses (list_park numbers) (has_wrong_count numbers) e ∙ sym (list_table long)
 
   -- the rules of the header, as they were looked at: the count that was compared is the one that it asks for
-  pub looked : {count : ℕ} {told : Option (ℕ × ℕ)} → count ≡ list_count h.sites h.lines → told ≡ first_broken (header_rules (not (eqb (length numbers) count)) h) → told ≡ first_broken (header_rules (has_wrong_count numbers) h)
-  looked asks told = told ∙ ap (λ (n : ℕ). first_broken (header_rules (not (eqb (length numbers) n)) h)) asks
+  pub looked : {read : Header} {count : ℕ} {told : Option (ℕ × ℕ)} → read ≡ h → count ≡ list_count read.sites read.lines → told ≡ first_broken (header_rules (not (eqb (length numbers) count)) read) → told ≡ first_broken (header_rules (has_wrong_count numbers) h)
+  looked {read = read} its asks told =
+      told
+      ∙ ap (λ (n : ℕ). first_broken (header_rules (not (eqb (length numbers) n)) read)) asks
+      ∙ ap (λ (x : Header). first_broken (header_rules (not (eqb (length numbers) (list_count x.sites x.lines))) x)) its
 
   module _ (sound : none ≡ first_broken (header_rules (has_wrong_count numbers) h)) where
     -- with a header that keeps its rules it has as many numbers as the header asks for

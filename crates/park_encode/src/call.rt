@@ -13,7 +13,8 @@ pub fn encode(numbers: &[u32], file: &mut [u8]) -> Result<usize, Refusal>
     ensures reply { reply_of result ≡ encode_outcome numbers.now file.old }
     ensures file { file.new ≡ buffer_after numbers.now file.old }
 {
-    let list = list::open(numbers)?;
+    list::check(numbers)?;
+    let list = list::accepted(numbers);
     let size = list.header().size();
     if file.len() < size {
         return Err(Rule::ShortBuffer.at(0));

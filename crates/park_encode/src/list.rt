@@ -1,10 +1,10 @@
 // A customer's list of numbers that has as many as its header asks for: its records by their index, and its check.
-ghost use Rattle.std.specs.Prelude.{◌≡◌, IfOk, length};
+ghost use Rattle.std.specs.Prelude.{◌≡◌, ◌≤◌, length};
 ghost use Rattle.park_format.specs.Inner.Recorded.{Recorded};
 ghost use Rattle.park_format.specs.Rules.{refusal_of};
-ghost use Rattle.park_encode.specs.Encode.{list_refusal};
+ghost use Rattle.park_encode.specs.Encode.{IsAcceptedList, list_refusal};
 ghost use Rattle.park_encode.specs.Inner.Counted.{Counted};
-ghost use Rattle.park_encode.specs.Numbers.{line_first, list_header, list_park, site_first};
+ghost use Rattle.park_encode.specs.Numbers.{header_fields, line_first, list_header, list_park, site_first};
 
 use park_format::generator::Generator;
 use park_format::header::Header;
@@ -95,26 +95,46 @@ impl<'a> Records for List<'a> {
     ghost recorded = { λ l. l.recorded };
 }
 
-// The list, if it keeps the rules, or the first that it breaks and where. It takes numbers of any count.
-pub fn open(numbers: &[u32]) -> Result<List<'_>, Refusal>
-    ensures refused { refusal_of result ≡ list_refusal numbers.now }
-    ensures same { IfOk result (λ list. list.numbers.now ≡ numbers.now) }
+// The header of a list that is long enough for one.
+fn header_of(numbers: &[u32]) -> Header
+    requires { header_fields ≤ length numbers.now }
+    ensures { result ≡ list_header numbers.now }
 {
-    let &[month, sites, lines, price, hours, ..] = numbers else {
-        return Err(Rule::TooShort.at(0));
-    };
-    let header = Header {
+    Header {
         mark: Header::MARK,
         version: VERSION,
-        month,
-        sites,
-        lines,
-        price,
-        hours,
+        month: numbers[0],
+        sites: numbers[1],
+        lines: numbers[2],
+        price: numbers[3],
+        hours: numbers[4],
         generators: 0,
-    };
-    rule::at_place(header.check(numbers.len() != line_start(sites, lines)), 0)?;
+    }
+}
+
+// Whether a list keeps the rules, or the first that it breaks and where. It takes numbers of any count.
+pub fn check(numbers: &[u32]) -> Result<(), Refusal>
+    ensures { refusal_of result ≡ list_refusal numbers.now }
+{
+    if numbers.len() < HEADER {
+        return Err(Rule::TooShort.at(0));
+    }
+    let header = header_of(numbers);
+    rule::at_place(
+        header.check(numbers.len() != line_start(header.sites, header.lines)),
+        0,
+    )?;
     let list = List { numbers, header };
-    records::check(&list)?;
-    Ok(list)
+    records::check(&list)
+}
+
+// The records of a list that keeps the rules. The header is read anew, so that what the check answers fits registers.
+pub fn accepted(numbers: &[u32]) -> List<'_>
+    requires { IsAcceptedList numbers.now }
+    ensures { result.numbers.now ≡ numbers.now }
+{
+    List {
+        numbers,
+        header: header_of(numbers),
+    }
 }

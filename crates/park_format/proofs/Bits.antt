@@ -1,16 +1,19 @@
 -- Laws of a set's digits: of a union, of one digit, of a complement, and of the zeros below the lowest digit.
 -- Assumes nothing.
 use Prim.Native.Nat.{ℕ, zero, suc, ◌+◌, ◌-◌, ◌*◌, ◌/◌, ◌%◌, ◌^◌, ◌≤◌, ◌<◌, suc-le-suc}
-use native.Mathlib.Nat.{pow-suc, not-suc-le-zero, le_of_suc-le-suc, lt_of_lt_of_le, mod-eq_of_lt, one-mul}
+use native.Mathlib.Nat.{pow-suc, not-suc-le-zero, le_of_suc-le-suc}
 use native.Mathlib.Omega.{arith}
+use mathlib.Core.List.{List, [], ◌∷◌}
 use mathlib.Core.Path.{◌≡◌, refl, sym, ap, ◌∙◌}
 use mathlib.Core.Bool.{true, false, not, ◌||◌}
-use lib.Dec.{eqb, eqb-zero-suc, eqb-suc-zero, eqb-suc-suc, lit≤}
+use lib.Dec.{eqb, eqb-zero-suc, eqb-suc-zero, eqb-suc-suc}
 use lib.Bits.{bit_or, or_shr, or_mod}
-use lib.Pow.{pow_mono}
+use lib.ListN.{get_or}
 use lib.Count.{count_trailing_zeros, under, trailing_le}
 use borrow.Author.Tests.{not-true, not-false}
 use Rattle.park_format.specs.Inner.Set.{has, Lowest}
+use Rattle.park_format.specs.Park.{list_of}
+use Rattle.park_format.proofs.Lists.{get_or-list_of}
 
 -- a digit is 0 or 1
 pub digit {ℓ} : (P : ℕ → Type ℓ) (x : ℕ) → x < 2 → P 0 → P 1 → P x
@@ -53,13 +56,20 @@ has_power zero (suc j) = has-zero j ∙ sym (eqb-zero-suc j)
 has_power (suc t) zero = ap (λ (x : ℕ). eqb x 1) (power_even t) ∙ sym (eqb-suc-zero t)
 has_power (suc t) (suc j) = ap (λ (x : ℕ). has x j) (power_half t) ∙ has_power t j ∙ sym (eqb-suc-suc t j)
 
--- a shift that stays within 32 bits
-pub shifted : (to : ℕ) → to ≤ 16 → 1 * 2 ^ to % 2 ^ 32 ≡ 2 ^ to
-shifted to h = ap (λ (x : ℕ). x % 2 ^ 32) (one-mul (2 ^ to)) ∙ mod-eq_of_lt (lt_of_lt_of_le (suc-le-suc (pow_mono h)) (lit≤ tt))
+-- the sets with one site alone, by its number; that of the network, 0, is empty
+abbrev pub alone : List ℕ
+alone = 0 ∷ 1 ∷ 2 ∷ 4 ∷ 8 ∷ 16 ∷ 32 ∷ 64 ∷ 128 ∷ 256 ∷ 512 ∷ 1024 ∷ 2048 ∷ 4096 ∷ 8192 ∷ 16384 ∷ 32768 ∷ []
 
-pub has_half_power : (to j : ℕ) → has (2 ^ to / 2) j ≡ eqb to (suc j)
+alone_at : (to : ℕ) → to ≤ 16 → get_or alone to 0 ≡ 2 ^ to / 2
+unfolding list_of
+alone_at to h = get_or-list_of (λ (i : ℕ). 2 ^ i / 2) 17 0 to (suc-le-suc h)
+
+has_half_power : (to j : ℕ) → has (2 ^ to / 2) j ≡ eqb to (suc j)
 has_half_power zero j = has-zero j ∙ sym (eqb-zero-suc j)
 has_half_power (suc t) j = ap (λ (x : ℕ). has x j) (power_half t) ∙ has_power t j ∙ sym (eqb-suc-suc t j)
+
+pub has_alone : (to j : ℕ) → to ≤ 16 → has (get_or alone to 0) j ≡ eqb to (suc j)
+has_alone to j h = ap (λ (x : ℕ). has x j) (alone_at to h) ∙ has_half_power to j
 
 -- the number with k digits 1
 full : ℕ → ℕ

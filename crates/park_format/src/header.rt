@@ -1,6 +1,6 @@
 // The header of a park file, and the rules of header and length.
 ghost use Rattle.std.specs.Prelude.{◌≡◌, cond, ◌≤◌, eqb, length};
-ghost use Rattle.park_format.specs.Format.{generator_start, header_size, line_start, number_at, shortest_header, site_start};
+ghost use Rattle.park_format.specs.Format.{generator_start, header_size, line_start, number_at, shortest_header, site_start, version_of};
 ghost use Rattle.park_format.specs.Inner.Stored.{Stored};
 ghost use Rattle.park_format.specs.Limits.{most_generators, most_lines, most_sites};
 ghost use Rattle.park_format.specs.Made.{header_bytes};
@@ -100,6 +100,14 @@ impl Header {
         Header::LATER_LEN
     }
 
+    // The version that a file states, which is long enough for a header of version 1.
+    pub fn version_of(file: &[u8]) -> u32
+        requires { shortest_header ≤ length file.now }
+        ensures { result ≡ version_of file.now }
+    {
+        number::read::<2>(file, Header::AT_VERSION)
+    }
+
     // By the version that a file states, as len. How many generators a file states: 0 in version 1, and where the file ends before it says.
     #[tactic(auto, unfolding(crate::specs::Format::number_at))]
     fn generators_of(file: &[u8], version: u32) -> u32
@@ -120,7 +128,7 @@ impl Header {
         requires { shortest_header ≤ length file.now }
         ensures { result ≡ header_of file.now }
     {
-        let version = number::read::<2>(file, Header::AT_VERSION);
+        let version = Header::version_of(file);
         Header {
             mark: number::read::<3>(file, 0),
             version,

@@ -49,8 +49,8 @@ pub struct Refusal {
 }
 
 impl Rule {
-    // The refusal by this rule at a place. It ends the loops over records, which are faster without it: the check of the largest park takes
-    // a tenth more instructions where it is inlined.
+    // The refusal by this rule at a place. It ends the loops over records, which are faster without it: where it is inlined, encode of the largest
+    // list takes a tenth longer and check of the largest park 4 percent.
     #[cold]
     #[inline(never)]
     pub fn at(self, place: u32) -> Refusal
