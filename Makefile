@@ -1,16 +1,20 @@
 # make bill FILE=examples/alder.prk    builds what is needed and bills a park file
 # make test                            proves every crate and runs all tests
+# make table                           prints the table of the surcharge's factors, as the operators do
 # make examples                        the example files and the script bill, with the program as last built
-# make self-test                       holds the test program to finding 209 wrong calculators
+# make self-test                       holds the test program to finding 258 wrong calculators
 # make bench                           times the calls beside plain Rust
 
-.PHONY: bill test examples self-test bench library
+.PHONY: bill test table examples self-test bench library
 
 bill:
 	@sh ./bill "$$FILE"
 
 test:
 	@sh tests/run
+
+table:
+	@cd crates/surcharge_table && rt run
 
 examples:
 	@sh tests/examples

@@ -1,6 +1,7 @@
-//! That product and plain answer alike of files: without it their times say nothing.
+//! That product, by both ways to the surcharge, and plain answer alike of files: without it their times
+//! say nothing.
 
-use crate::calls::{Bill, Calls, Plain, Product};
+use crate::calls::{Bill, ByTable, Calls, Plain, Product};
 use crate::files::{Files, ALDER};
 use crate::random::Random;
 
@@ -38,7 +39,7 @@ pub fn park_billed<C: Calls>(file: &[u8], list_len: usize) -> Outcome {
     Outcome { number, place, sites, numbers }
 }
 
-/// Panics unless both leave the same, in every call, for every file of a set: as it is, with a byte
+/// Panics unless all leave the same, in every call, for every file of a set: as it is, with a byte
 /// changed, with three changed, cut short, and a byte too long. Gives the numbers that `check` and
 /// the billing calls answered, as bits.
 pub fn assert_agree(files: &Files, seed: u64) -> u32 {
@@ -78,13 +79,15 @@ pub fn assert_agree_on(file: &[u8], sites: u64) -> u32 {
     };
     assert_alike(checked::<Product>(file), checked::<Plain>(file), "check");
     for site in 0..=sites + 1 {
-        let product = site_billed::<Product>(file, site);
-        assert_alike(product, site_billed::<Plain>(file, site), "bill_site");
+        let plain = || site_billed::<Plain>(file, site);
+        assert_alike(site_billed::<Product>(file, site), plain(), "bill_site");
+        assert_alike(site_billed::<ByTable>(file, site), plain(), "bill_site by table");
     }
     let needed = 11 * sites as usize;
     for list_len in [needed - 1, needed, ROOM] {
-        let product = park_billed::<Product>(file, list_len);
-        assert_alike(product, park_billed::<Plain>(file, list_len), "bill_park");
+        let plain = || park_billed::<Plain>(file, list_len);
+        assert_alike(park_billed::<Product>(file, list_len), plain(), "bill_park");
+        assert_alike(park_billed::<ByTable>(file, list_len), plain(), "bill_park by table");
     }
     numbers
 }

@@ -1,4 +1,4 @@
-//! The four calls, of the product and in plain Rust, behind one trait.
+//! The four calls behind one trait: of the product, by each way to the surcharge, and in plain Rust.
 
 use park::c;
 
@@ -52,14 +52,11 @@ impl Calls for Product {
     }
 
     fn bill_site(file: &[u8], bill: &mut Bill, site: u64, place: &mut u64) -> u64 {
-        // SAFETY: as in `check`; the bill is eleven numbers.
-        unsafe { c::park_bill_site(file.as_ptr(), file.len(), bill, site, place) }
+        bill_site_with(c::park_bill_site, file, bill, site, place)
     }
 
     fn bill_park(file: &[u8], list: &mut [u64], place: &mut u64, sites: &mut u64) -> u64 {
-        let (list_ptr, list_len) = (list.as_mut_ptr(), list.len());
-        // SAFETY: as in `check`; the list's length is the slice's own.
-        unsafe { c::park_bill_park(file.as_ptr(), file.len(), list_ptr, list_len, place, sites) }
+        bill_park_with(c::park_bill_park, file, list, place, sites)
     }
 
     fn encode(numbers: &[u32], file: &mut [u8], place: &mut u64, size: &mut u64) -> u64 {
@@ -67,4 +64,50 @@ impl Calls for Product {
         // SAFETY: as in `check`; both lengths are the slices' own.
         unsafe { c::park_encode(numbers.as_ptr(), numbers.len(), file_ptr, file_len, place, size) }
     }
+}
+
+/// The linked library, which bills by the table of the surcharge's factors.
+pub struct ByTable;
+
+impl Calls for ByTable {
+    fn check(file: &[u8], place: &mut u64) -> u64 {
+        Product::check(file, place)
+    }
+
+    fn bill_site(file: &[u8], bill: &mut Bill, site: u64, place: &mut u64) -> u64 {
+        bill_site_with(c::park_bill_site_by_table, file, bill, site, place)
+    }
+
+    fn bill_park(file: &[u8], list: &mut [u64], place: &mut u64, sites: &mut u64) -> u64 {
+        bill_park_with(c::park_bill_park_by_table, file, list, place, sites)
+    }
+
+    fn encode(numbers: &[u32], file: &mut [u8], place: &mut u64, size: &mut u64) -> u64 {
+        Product::encode(numbers, file, place, size)
+    }
+}
+
+#[inline(always)]
+fn bill_site_with(
+    call: c::BillSite,
+    file: &[u8],
+    bill: &mut Bill,
+    site: u64,
+    place: &mut u64,
+) -> u64 {
+    // SAFETY: as in `check`; the bill is eleven numbers.
+    unsafe { call(file.as_ptr(), file.len(), bill, site, place) }
+}
+
+#[inline(always)]
+fn bill_park_with(
+    call: c::BillPark,
+    file: &[u8],
+    list: &mut [u64],
+    place: &mut u64,
+    sites: &mut u64,
+) -> u64 {
+    let (list_ptr, list_len) = (list.as_mut_ptr(), list.len());
+    // SAFETY: as in `check`; the list's length is the slice's own.
+    unsafe { call(file.as_ptr(), file.len(), list_ptr, list_len, place, sites) }
 }

@@ -1,4 +1,5 @@
-//! Compares the time of the product's four calls with plain Rust that was written to be fast.
+//! Compares the time of the product's four calls with plain Rust that was written to be fast, and of
+//! its billing calls by the two ways to the surcharge with each other.
 //!
 //! How it is made fair:
 //! - Both get the same files in the same run, in rounds that take turns, and each is first in every
@@ -24,7 +25,8 @@
 //! table of four calls on three parks is printed last, with version 2 of the same parks beside
 //! version 1; encode makes version 1 alone. The smallest park and Alder then have one generator,
 //! the largest has 32. Below it is `ratio` with that of bill_park on the largest park in version 1.
-//! The three calls on a file are timed together, encode after them.
+//! The three calls on a file are timed together, encode after them. Before it stands what the billing
+//! calls take by the surcharge's table for 1 of their time by its formula.
 
 mod agree;
 mod agree_2;
@@ -41,6 +43,7 @@ mod refusals;
 mod rules;
 mod totals;
 
+use calls::{ByTable, Plain, Product};
 use files::Files;
 use measure::{measure, Call, Times};
 use random::Random;
@@ -50,6 +53,9 @@ const SEED: u64 = 20_240_411;
 
 const FILE_CALLS: [(Call, &str); 3] =
     [(Call::Check, "check"), (Call::BillSite, "bill_site"), (Call::BillPark, "bill_park")];
+
+const BILLING_CALLS: [(Call, &str); 2] =
+    [(Call::BillSite, "bill_site"), (Call::BillPark, "bill_park")];
 
 /// One shape of park, in both versions.
 struct Park {
@@ -73,6 +79,7 @@ fn main() {
 
     print_growth("one site", &by_lines);
     print_growth("64 lines", &by_sites);
+    print_ways(&parks);
     let ratio = print_calls(&parks);
     println!("ratio {ratio:.2}");
 }
@@ -120,9 +127,33 @@ fn assert_agree(timed: &[&Files]) {
 fn print_growth(name: &str, sets: &[Files]) {
     println!("{:<10} {name:<10} {NAMES}", "bill_park");
     let cases: Vec<_> = sets.iter().map(|files| (files, Call::BillPark)).collect();
-    for (files, times) in sets.iter().zip(measure(&cases)) {
+    for (files, times) in sets.iter().zip(measure::<Product, Plain>(&cases)) {
         let shape = (format!("{} sites", files.sites), format!("{} lines", files.lines));
         println!("{:<10} {:<10} {}", shape.0, shape.1, numbers(&times));
+    }
+    println!();
+}
+
+/// Calls on the files of each park, in version 1 and in version 2.
+fn cases_of<'p>(parks: &'p [Park], calls: &[(Call, &str)]) -> Vec<(&'p Files, Call)> {
+    let of_park = |park: &'p Park| {
+        let of_call =
+            |(call, _): &(Call, &str)| [(&park.version_1, *call), (&park.version_2, *call)];
+        calls.iter().flat_map(of_call).collect::<Vec<_>>()
+    };
+    parks.iter().flat_map(of_park).collect()
+}
+
+/// Prints the billing calls by the table of the surcharge's factors and by its formula for each park,
+/// version 2 beside version 1.
+fn print_ways(parks: &[Park]) {
+    let names = "  table ns   formula  ratio";
+    let times = measure::<ByTable, Product>(&cases_of(parks, &BILLING_CALLS));
+    println!("{:<21} {:<28}   version 2", "", "version 1");
+    println!("{:<10} {:<10} {names}   {names}", "park", "call");
+    let (both, _) = times.as_chunks();
+    for (park, both) in parks.iter().zip(both.chunks_exact(BILLING_CALLS.len())) {
+        print_both(park, &BILLING_CALLS, both);
     }
     println!();
 }
@@ -130,13 +161,9 @@ fn print_growth(name: &str, sets: &[Files]) {
 /// Prints the four calls for each park, version 2 beside version 1, and gives the ratio of
 /// bill_park on the last park, the largest, in version 1.
 fn print_calls(parks: &[Park]) -> f64 {
-    let of_files = |files| FILE_CALLS.map(|(call, _)| (files, call));
-    let cases_1 = parks.iter().flat_map(|park| of_files(&park.version_1));
-    let cases_2 = parks.iter().flat_map(|park| of_files(&park.version_2));
-    let cases: Vec<_> = cases_1.zip(cases_2).flat_map(|(of_1, of_2)| [of_1, of_2]).collect();
-    let of_files = measure(&cases);
+    let of_files = measure::<Product, Plain>(&cases_of(parks, &FILE_CALLS));
     let cases: Vec<_> = parks.iter().map(|park| (&park.version_1, Call::Encode)).collect();
-    let of_lists = measure(&cases);
+    let of_lists = measure::<Product, Plain>(&cases);
 
     println!("{:<21} {:<28}   version 2", "", "version 1");
     println!("{:<10} {:<10} {NAMES}   {NAMES}", "park", "call");
@@ -144,19 +171,24 @@ fn print_calls(parks: &[Park]) -> f64 {
     for ((park, both), of_list) in
         parks.iter().zip(both.chunks_exact(FILE_CALLS.len())).zip(&of_lists)
     {
-        for ((_, call), [of_1, of_2]) in FILE_CALLS.iter().zip(both) {
-            println!("{:<10} {call:<10} {}   {}", park.name, numbers(of_1), numbers(of_2));
-        }
+        print_both(park, &FILE_CALLS, both);
         println!("{:<10} {:<10} {}", park.name, "encode", numbers(of_list));
     }
     println!();
     both[both.len() - 1][0].ratio
 }
 
-/// The names of what `numbers` gives.
+/// Prints the times of calls for a park, each in both versions.
+fn print_both(park: &Park, calls: &[(Call, &str)], both: &[[Times; 2]]) {
+    for ((_, call), [of_1, of_2]) in calls.iter().zip(both) {
+        println!("{:<10} {call:<10} {}   {}", park.name, numbers(of_1), numbers(of_2));
+    }
+}
+
+/// The names of what `numbers` gives of product and plain.
 const NAMES: &str = "product ns  plain ns  ratio";
 
 fn numbers(times: &Times) -> String {
-    let Times { product, plain, ratio } = times;
-    format!("{product:>10.1} {plain:>9.1} {ratio:>6.2}")
+    let Times { first, second, ratio } = times;
+    format!("{first:>10.1} {second:>9.1} {ratio:>6.2}")
 }

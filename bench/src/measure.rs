@@ -1,4 +1,4 @@
-//! Times of product and plain over sets of files, taken in turns.
+//! Times of two kinds of calls over sets of files, taken in turns.
 //!
 //! What is timed touches no heap: the list, the bill and the buffer stand on the stack, the files
 //! and the lists of their numbers were made before.
@@ -6,7 +6,7 @@
 use std::hint::black_box;
 use std::time::Instant;
 
-use crate::calls::{Bill, Calls, Plain, Product};
+use crate::calls::{Bill, Calls};
 use crate::files::Files;
 
 /// Every case is looked at in so many sweeps over all cases, so that a slow moment of the machine
@@ -27,20 +27,20 @@ pub enum Call {
     Encode,
 }
 
-/// Medians over the rounds: nanoseconds a park, and what the product takes for 1 of plain's.
+/// Medians over the rounds: nanoseconds a park, and what the first takes for 1 of the second's.
 pub struct Times {
-    pub product: f64,
-    pub plain: f64,
+    pub first: f64,
+    pub second: f64,
     pub ratio: f64,
 }
 
-/// Times calls over sets of files, each in as many rounds.
-pub fn measure(cases: &[(&Files, Call)]) -> Vec<Times> {
+/// Times two kinds of calls over sets of files, each in as many rounds.
+pub fn measure<A: Calls, B: Calls>(cases: &[(&Files, Call)]) -> Vec<Times> {
     let mut rounds = vec![Vec::new(); cases.len()];
     for sweep in 0..SWEEPS {
         deeper(sweep, &mut || {
             for ((files, call), rounds) in cases.iter().zip(&mut rounds) {
-                add_sweep(files, *call, rounds);
+                add_sweep::<A, B>(files, *call, rounds);
             }
         });
     }
@@ -60,27 +60,26 @@ fn deeper(frames: usize, run: &mut dyn FnMut()) {
     black_box(&frame);
 }
 
-/// Adds the rounds of one sweep, in each of them product and plain one after the other, each first
-/// in turn.
-fn add_sweep(files: &Files, call: Call, rounds: &mut Vec<(f64, f64)>) {
-    round::<Product>(files, call);
-    round::<Plain>(files, call);
+/// Adds the rounds of one sweep, in each of them both kinds one after the other, each first in turn.
+fn add_sweep<A: Calls, B: Calls>(files: &Files, call: Call, rounds: &mut Vec<(f64, f64)>) {
+    round::<A>(files, call);
+    round::<B>(files, call);
     for turn in 0..ROUNDS {
         rounds.push(if turn % 2 == 0 {
-            let product = round::<Product>(files, call);
-            (product, round::<Plain>(files, call))
+            let first = round::<A>(files, call);
+            (first, round::<B>(files, call))
         } else {
-            let plain = round::<Plain>(files, call);
-            (round::<Product>(files, call), plain)
+            let second = round::<B>(files, call);
+            (round::<A>(files, call), second)
         });
     }
 }
 
 fn times(rounds: &[(f64, f64)]) -> Times {
     Times {
-        product: median(rounds.iter().map(|(product, _)| *product)),
-        plain: median(rounds.iter().map(|(_, plain)| *plain)),
-        ratio: median(rounds.iter().map(|(product, plain)| product / plain)),
+        first: median(rounds.iter().map(|(first, _)| *first)),
+        second: median(rounds.iter().map(|(_, second)| *second)),
+        ratio: median(rounds.iter().map(|(first, second)| first / second)),
     }
 }
 

@@ -1,7 +1,9 @@
-/* Prints the total of each site of the park file on standard input, or the refusal. It is C and C++ alike.
+/* Prints the total of each site of the park file on standard input, or the refusal. With the argument `table` the surcharge
+   is by the operators' table, and what is printed is the same. It is C and C++ alike.
    Exit status: 0 billed, 1 refused, 2 the input cannot be read, 3 the output cannot be written. */
 #include <inttypes.h>
 #include <stdio.h>
+#include <string.h>
 
 #include "park.h"
 
@@ -14,7 +16,7 @@ static int written(int status)
     return 3;
 }
 
-int main(void)
+int main(int argc, char **argv)
 {
     /* The longest accepted file has 1,951 bytes. Of a longer one 2,048 are enough: they are refused as the whole is. */
     static uint8_t file[2048];
@@ -25,8 +27,11 @@ int main(void)
         perror("example: standard input");
         return 2;
     }
+    size_t list_len = sizeof list / sizeof *list;
     uint64_t refused =
-        park_bill_park(file, file_len, list, sizeof list / sizeof *list, &place, &sites);
+        argc == 2 && strcmp(argv[1], "table") == 0
+            ? park_bill_park_by_table(file, file_len, list, list_len, &place, &sites)
+            : park_bill_park(file, file_len, list, list_len, &place, &sites);
     if (refused != 0) {
         printf("refused,%" PRIu64 ",%" PRIu64 "\n", refused, place);
         return written(1);

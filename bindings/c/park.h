@@ -24,6 +24,12 @@ uint64_t park_bill_site(const uint8_t *file, size_t file_len, uint64_t bill[11],
 uint64_t park_bill_park(const uint8_t *file, size_t file_len, uint64_t *list, size_t list_len,
                         uint64_t *place, uint64_t *sites);
 
+/* Both again, with the surcharge read from the operators' table and not worked out. What they return and write is the same. */
+uint64_t park_bill_site_by_table(const uint8_t *file, size_t file_len, uint64_t bill[11],
+                                 uint64_t site, uint64_t *place);
+uint64_t park_bill_park_by_table(const uint8_t *file, size_t file_len, uint64_t *list,
+                                 size_t list_len, uint64_t *place, uint64_t *sites);
+
 /* Makes a park file of version 1, at the start of a buffer of file_len bytes, from numbers_len numbers: month, number
    of sites, number of lines, price T and hours t, then five of each site and eight of each line, in the order of the
    file (docs/RULES.md). Writes the file's length to *size; the bytes after it stay. */

@@ -23,23 +23,38 @@ pub fn check(file: &[u8]) -> Result<(), Refusal> {
 
 /// The bill of one site, counted from 1.
 pub fn bill_site(file: &[u8], site: u64) -> Result<Bill, Refusal> {
+    bill_site_with(c::park_bill_site, file, site)
+}
+
+/// The same, with the surcharge by the operators' table.
+pub fn bill_site_by_table(file: &[u8], site: u64) -> Result<Bill, Refusal> {
+    bill_site_with(c::park_bill_site_by_table, file, site)
+}
+
+fn bill_site_with(call: c::BillSite, file: &[u8], site: u64) -> Result<Bill, Refusal> {
     let (mut bill, mut place) = ([0; 11], 0);
     // SAFETY: as in `check`; the bill is eleven numbers.
-    let number =
-        unsafe { c::park_bill_site(file.as_ptr(), file.len(), &mut bill, site, &mut place) };
+    let number = unsafe { call(file.as_ptr(), file.len(), &mut bill, site, &mut place) };
     answer(number, place, bill)
 }
 
 /// Writes the bill of every site, one after the other, at the start of the list, and gives how many
 /// sites there are. A refusal leaves the list as it was.
 pub fn bill_park(file: &[u8], list: &mut [u64]) -> Result<u64, Refusal> {
+    bill_park_with(c::park_bill_park, file, list)
+}
+
+/// The same, with the surcharge by the operators' table.
+pub fn bill_park_by_table(file: &[u8], list: &mut [u64]) -> Result<u64, Refusal> {
+    bill_park_with(c::park_bill_park_by_table, file, list)
+}
+
+fn bill_park_with(call: c::BillPark, file: &[u8], list: &mut [u64]) -> Result<u64, Refusal> {
     let (mut place, mut sites) = (0, 0);
     let (list_ptr, list_len) = (list.as_mut_ptr(), list.len());
     // SAFETY: as in `check`; the list's length is the slice's own.
-    let number = unsafe {
-        let file_ptr = file.as_ptr();
-        c::park_bill_park(file_ptr, file.len(), list_ptr, list_len, &mut place, &mut sites)
-    };
+    let number =
+        unsafe { call(file.as_ptr(), file.len(), list_ptr, list_len, &mut place, &mut sites) };
     answer(number, place, sites)
 }
 
@@ -69,6 +84,13 @@ fn answer<T>(number: u64, place: u64, value: T) -> Result<T, Refusal> {
 pub mod c {
     use super::Bill;
 
+    /// One site billed, by either way to the surcharge.
+    pub type BillSite = unsafe extern "C" fn(*const u8, usize, *mut Bill, u64, *mut u64) -> u64;
+
+    /// The park billed, by either way to the surcharge.
+    pub type BillPark =
+        unsafe extern "C" fn(*const u8, usize, *mut u64, usize, *mut u64, *mut u64) -> u64;
+
     extern "C" {
         pub fn park_check(file_ptr: *const u8, file_len: usize, place: *mut u64) -> u64;
 
@@ -80,7 +102,24 @@ pub mod c {
             place: *mut u64,
         ) -> u64;
 
+        pub fn park_bill_site_by_table(
+            file_ptr: *const u8,
+            file_len: usize,
+            bill: *mut Bill,
+            site: u64,
+            place: *mut u64,
+        ) -> u64;
+
         pub fn park_bill_park(
+            file_ptr: *const u8,
+            file_len: usize,
+            list_ptr: *mut u64,
+            list_len: usize,
+            place: *mut u64,
+            sites: *mut u64,
+        ) -> u64;
+
+        pub fn park_bill_park_by_table(
             file_ptr: *const u8,
             file_len: usize,
             list_ptr: *mut u64,

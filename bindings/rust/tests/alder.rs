@@ -1,6 +1,13 @@
 //! The safe calls on Park Alder.
 
-use park::{bill_park, bill_site, check, encode, Refusal};
+use park::{check, encode, Bill, Refusal};
+
+type BillSite = fn(&[u8], u64) -> Result<Bill, Refusal>;
+type BillPark = fn(&[u8], &mut [u64]) -> Result<u64, Refusal>;
+
+/// The billing calls, by both ways to the surcharge.
+const WAYS: [(BillSite, BillPark); 2] =
+    [(park::bill_site, park::bill_park), (park::bill_site_by_table, park::bill_park_by_table)];
 
 const ALDER: &[u8] = include_bytes!("../../../examples/alder.prk");
 
@@ -12,12 +19,14 @@ const BILLS: [u64; 22] = [
 #[test]
 fn alder_is_billed() {
     assert_eq!(check(ALDER), Ok(()));
-    let mut list = [7; 23];
-    assert_eq!(bill_park(ALDER, &mut list), Ok(2));
-    assert_eq!(list[..22], BILLS);
-    assert_eq!(list[22], 7);
-    assert_eq!(bill_site(ALDER, 1).map(Vec::from), Ok(BILLS[..11].to_vec()));
-    assert_eq!(bill_site(ALDER, 2).map(Vec::from), Ok(BILLS[11..].to_vec()));
+    for (bill_site, bill_park) in WAYS {
+        let mut list = [7; 23];
+        assert_eq!(bill_park(ALDER, &mut list), Ok(2));
+        assert_eq!(list[..22], BILLS);
+        assert_eq!(list[22], 7);
+        assert_eq!(bill_site(ALDER, 1).map(Vec::from), Ok(BILLS[..11].to_vec()));
+        assert_eq!(bill_site(ALDER, 2).map(Vec::from), Ok(BILLS[11..].to_vec()));
+    }
 }
 
 /// Alder's numbers: the header, two sites, three lines.
@@ -67,10 +76,12 @@ fn the_ends_of_a_line_are_told_apart() {
         let (file, numbers) = with_ends(from, to);
         let refusal = Refusal { number, place: 2 };
         assert_eq!(check(&file), Err(refusal));
-        assert_eq!(bill_site(&file, 1), Err(refusal));
         let mut list = [7; 22];
-        assert_eq!(bill_park(&file, &mut list), Err(refusal));
-        assert_eq!(list, [7; 22]);
+        for (bill_site, bill_park) in WAYS {
+            assert_eq!(bill_site(&file, 1), Err(refusal));
+            assert_eq!(bill_park(&file, &mut list), Err(refusal));
+            assert_eq!(list, [7; 22]);
+        }
         let mut made = [7; 99];
         assert_eq!(encode(&numbers, &mut made), Err(refusal));
         assert_eq!(made, [7; 99]);
@@ -85,8 +96,10 @@ fn refusals_have_number_and_place() {
     let mut file = ALDER.to_vec();
     file.push(0);
     assert_eq!(check(&file), Err(Refusal { number: 9, place: 0 }));
-    assert_eq!(bill_site(ALDER, 3), Err(Refusal { number: 20, place: 0 }));
     let mut list = [7; 21];
-    assert_eq!(bill_park(ALDER, &mut list), Err(Refusal { number: 21, place: 0 }));
-    assert_eq!(list, [7; 21]);
+    for (bill_site, bill_park) in WAYS {
+        assert_eq!(bill_site(ALDER, 3), Err(Refusal { number: 20, place: 0 }));
+        assert_eq!(bill_park(ALDER, &mut list), Err(Refusal { number: 21, place: 0 }));
+        assert_eq!(list, [7; 21]);
+    }
 }

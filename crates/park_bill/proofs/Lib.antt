@@ -9,3 +9,4 @@ pub mod Slices
 pub mod Billed
 pub mod Balances
 pub mod Outcomes
+pub mod ByTable

@@ -5,3 +5,4 @@ pub mod Balance
 pub mod Former
 pub mod First
 pub mod Inner
+pub mod ByTable

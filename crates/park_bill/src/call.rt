@@ -1,4 +1,4 @@
-// The two billing calls.
+// The billing calls, by a given way to the surcharge and by its formula.
 ghost use Rattle.std.specs.Prelude.{◌≡◌, ◌++◌, ◌+◌, ◌*◌, ◌≤◌, ◌<◌, length, drop};
 ghost use Rattle.park_format.specs.Call.{reply_of};
 ghost use Rattle.park_format.specs.Rules.{zero_or_above};
@@ -10,6 +10,7 @@ ghost use Rattle.park_bill.specs.Reply.{bills_of, list_after, park_outcome, repl
 
 use crate::bill::Bill;
 use crate::site::{self, Terms};
+use park_charge::SurchargeBy;
 use park_format::opening::Opened;
 use park_format::records::Accepted;
 use park_format::rule::{Refusal, Rule};
@@ -27,15 +28,15 @@ fn is_missing(site: u64, sites: u32) -> bool
 // The bill of site k of a park, counted from 0, from what both walks left for it. Inlined where the bill is replied or written, since one that is
 // passed in memory makes bill_site of the smallest park a sixth slower.
 #[inline(always)]
-fn bill_at<P: Accepted>(park: &P, k: u32, sums: SiteSums) -> Bill
+fn bill_at<P: Accepted>(by: SurchargeBy, park: &P, k: u32, sums: SiteSums) -> Bill
     requires { (k < (P.park park.now).header.sites) × (IsSite (touching (k + 1) (P.park park.now)) sums) }
     ensures { result ≡ bill (P.park park.now) (k + 1) }
 {
-    site::bill_of(Terms::of(park), park.site(k), sums)
+    site::bill_of(by, Terms::of(park), park.site(k), sums)
 }
 
 // Bills one site of a park, if it is one, by walks for it alone.
-fn bill_one<P: Accepted>(park: &P, site: u64) -> Result<Bill, Refusal>
+fn bill_one<P: Accepted>(by: SurchargeBy, park: &P, site: u64) -> Result<Bill, Refusal>
     ensures { reply_of result ≡ one_outcome (P.park park.now) site }
 {
     if is_missing(site, park.header().sites) {
@@ -46,6 +47,7 @@ fn bill_one<P: Accepted>(park: &P, site: u64) -> Result<Bill, Refusal>
     let tangent = row::tangent(sums.row, own::more_at(park, site));
     let row = walk::site_after_transits(park, site, tangent, sums.row);
     Ok(bill_at(
+        by,
         park,
         site - 1,
         SiteSums {
@@ -57,7 +59,12 @@ fn bill_one<P: Accepted>(park: &P, site: u64) -> Result<Bill, Refusal>
 }
 
 // Writes the bill of each site of a park into its own part of a list, from what the walks left.
-fn write_bills<P: Accepted>(park: &P, sums: &[SiteSums; walk::PLACES], list: &mut [u64])
+fn write_bills<P: Accepted>(
+    by: SurchargeBy,
+    park: &P,
+    sums: &[SiteSums; walk::PLACES],
+    list: &mut [u64],
+)
     requires walked { AreSites (P.park park.now) sums.now }
     requires long { bill_numbers * (P.park park.now).header.sites ≤ length list.old }
     ensures { list.new ≡ bills_of (P.park park.now) (P.park park.now).header.sites ++ drop (bill_numbers * (P.park park.now).header.sites) list.old }
@@ -66,12 +73,12 @@ fn write_bills<P: Accepted>(park: &P, sums: &[SiteSums; walk::PLACES], list: &mu
     for k in 0..park.header().sites {
         let site = k as usize + 1;
         let start = Bill::NUMBERS * k as usize;
-        bill_at(park, k, sums[site]).write(&mut list[start..start + Bill::NUMBERS]);
+        bill_at(by, park, k, sums[site]).write(&mut list[start..start + Bill::NUMBERS]);
     }
 }
 
 // Bills every site of a park into a list, if it is long enough.
-fn bill_all<P: Accepted>(park: &P, list: &mut [u64]) -> Result<u64, Refusal>
+fn bill_all<P: Accepted>(by: SurchargeBy, park: &P, list: &mut [u64]) -> Result<u64, Refusal>
     ensures reply { reply_of result ≡ all_outcome (P.park park.now) list.old }
     ensures written { list.new ≡ all_after (P.park park.now) list.old }
 {
@@ -82,29 +89,46 @@ fn bill_all<P: Accepted>(park: &P, list: &mut [u64]) -> Result<u64, Refusal>
     let mut sums = walk::sums(park);
     walk::tangents(park, &mut sums);
     walk::after_transits(park, &mut sums);
-    write_bills(park, &sums, list);
+    write_bills(by, park, &sums, list);
     Ok(u64::from(sites))
 }
 
-// Bills one site, counted from 1. It takes any number for a site, and bytes of any number.
-pub fn bill_site(file: &[u8], site: u64) -> Result<Bill, Refusal>
+// Bills one site, counted from 1, by the given way to the surcharge. It takes any number for a site, and bytes of any number.
+pub fn bill_site_by(by: SurchargeBy, file: &[u8], site: u64) -> Result<Bill, Refusal>
     ensures reply { reply_of result ≡ site_outcome file.now site }
     ensures balance { SiteInBalance file.now site (reply_numbers (reply_of result)) }
 {
     match park_format::open(file)? {
-        Opened::First(park) => bill_one(&park, site),
-        Opened::Second(park) => bill_one(&park, site),
+        Opened::First(park) => bill_one(by, &park, site),
+        Opened::Second(park) => bill_one(by, &park, site),
     }
 }
 
-// Bills every site into a list, eleven numbers a site, and counts the sites; a refusal leaves the list as it was.
-pub fn bill_park(file: &[u8], list: &mut [u64]) -> Result<u64, Refusal>
+// Bills every site into a list, eleven numbers a site, by the given way to the surcharge, and counts the sites; a refusal leaves the list as it was.
+pub fn bill_park_by(by: SurchargeBy, file: &[u8], list: &mut [u64]) -> Result<u64, Refusal>
     ensures reply { reply_of result ≡ park_outcome file.now list.old }
     ensures written { list.new ≡ list_after file.now list.old }
     ensures balance { InBalance file.now list.old list.new }
 {
     match park_format::open(file)? {
-        Opened::First(park) => bill_all(&park, list),
-        Opened::Second(park) => bill_all(&park, list),
+        Opened::First(park) => bill_all(by, &park, list),
+        Opened::Second(park) => bill_all(by, &park, list),
     }
+}
+
+// Bills one site by the surcharge's formula.
+pub fn bill_site(file: &[u8], site: u64) -> Result<Bill, Refusal>
+    ensures reply { reply_of result ≡ site_outcome file.now site }
+    ensures balance { SiteInBalance file.now site (reply_numbers (reply_of result)) }
+{
+    bill_site_by(SurchargeBy::Formula, file, site)
+}
+
+// Bills every site into a list by the surcharge's formula.
+pub fn bill_park(file: &[u8], list: &mut [u64]) -> Result<u64, Refusal>
+    ensures reply { reply_of result ≡ park_outcome file.now list.old }
+    ensures written { list.new ≡ list_after file.now list.old }
+    ensures balance { InBalance file.now list.old list.new }
+{
+    bill_park_by(SurchargeBy::Formula, file, list)
 }

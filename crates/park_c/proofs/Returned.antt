@@ -3,7 +3,7 @@
 use Prim.Native.Nat.{ℕ}
 use native.Mathlib.Omega.{arith}
 use mathlib.Core.Logic.{◌⊎◌, inl, inr}
-use mathlib.Core.Path.{◌≡◌, refl, sym, ap, subst}
+use mathlib.Core.Path.{◌≡◌, refl, sym, ap, ap₂, subst, ◌∙◌}
 use mathlib.Core.Bool.{Bool, cond}
 use mathlib.Core.List.{List, []}
 use borrow.Author.Tests.{ne_eqb}
@@ -20,6 +20,8 @@ returned_is file site before (inl r) e =
     ap (λ (b : Bool). cond b before []) (ne_eqb r.0 0 (λ z. omega arith))
 returned_is file site before (inr b) e = refl
 
-pub returned_in_balance : (file : List ℕ) (site : ℕ) (before : List ℕ) {reply : (ℕ × ℕ) ⊎ Bill} → reply ≡ site_outcome file site → SiteInBalance file site (returned (number_of reply) (numbers_after reply before))
-returned_in_balance file site before {reply} e =
-    subst (SiteInBalance file site) (sym (returned_is file site before reply e)) (site_in_balance file site e)
+-- of a call that returns and leaves what is defined
+pub returned_in_balance : (file : List ℕ) (site : ℕ) (before : List ℕ) {number : ℕ} {after : List ℕ} → number ≡ number_of (site_outcome file site) → after ≡ numbers_after (site_outcome file site) before → SiteInBalance file site (returned number after)
+returned_in_balance file site before told written =
+    let reply = site_outcome file site in
+    subst (SiteInBalance file site) (sym (ap₂ returned told written ∙ returned_is file site before reply refl)) (site_in_balance file site refl)

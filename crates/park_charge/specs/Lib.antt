@@ -5,3 +5,4 @@ pub mod Generation
 pub mod Charge
 pub mod Reason
 pub mod Former
+pub mod ByTable

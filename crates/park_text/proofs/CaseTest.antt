@@ -24,6 +24,7 @@ use Rattle.park_charge.specs.Losses.{above_zero, cut}
 use Rattle.park_charge.specs.Former.{former_surcharge, former_tangent}
 use Rattle.park_charge.specs.Generation.{computed_generation}
 use Rattle.park_charge.specs.Charge.{computed_charge, discount, factor_at, loss_charge, reason, surcharge, surcharge_factor}
+use Rattle.park_charge.specs.ByTable.{factor_by_table, surcharge_by_table}
 use Rattle.park_sums.specs.Sums.{all_of, over_sites, sum_by, EachSite}
 use Rattle.park_bill.specs.Balance.{MeasuredBetween}
 use Rattle.park_bill.specs.Bill.{consumption_at, generation_charge, generation_of, tangent_of, weighted_at}
@@ -33,13 +34,13 @@ use Rattle.park_text.specs.Answer.{answer_to}
 use Rattle.park_text.specs.Ascii.{ascii}
 use Rattle.park_text.specs.Text.{bill_text, decimal, digits_within, fields_text, names_text, refusal_text, site_text, sites_text}
 use Rattle.park_text.specs.Cases.{accepts, agree, AllCases, Case, cases, holds, measured_line, numbers, refuses, Says, Whether}
-use Rattle.park_text.specs.Cases.Case.{active_case, balance_case, charge_case, estimate_case, file_case, former_case, printed, reason_case, refused_case, surcharge_case, tangent_case, whole_bill}
+use Rattle.park_text.specs.Cases.Case.{active_case, balance_case, by_table_case, charge_case, estimate_case, file_case, former_case, printed, reason_case, refused_case, surcharge_case, tangent_case, whole_bill}
 use Rattle.park_bill.proofs.Outcomes.{loss_balance}
 use Rattle.park_bill.proofs.Balances.{over_cong, over_none, over_zero}
 
 -- the test
 all_hold : all_of holds cases ≡ true
-unfolding holds bytes_for bytes_of file_of joined fields_at number_at header_of generator_at generator_of line_at line_of list_of park_of select site_at site_of each file_rules first_broken generator_rules header_rules header_size input_rules line_rules line_size most_hours refusal rules_with site_rules rounded inflow estimated_out outflow tangent above_zero cut computed_generation former_tangent former_surcharge computed_charge discount loss_charge reason factor_at surcharge surcharge_factor all_of sum_by consumption_at generation_charge generation_of tangent_of weighted_at bills_of call_refusal refusal_with over_sites answer_to decimal digits_within bill_text names_text sites_text site_text fields_text refusal_text
+unfolding holds bytes_for bytes_of file_of joined fields_at number_at header_of generator_at generator_of line_at line_of list_of park_of select site_at site_of each file_rules first_broken generator_rules header_rules header_size input_rules line_rules line_size most_hours refusal rules_with site_rules rounded inflow estimated_out outflow tangent above_zero cut computed_generation former_tangent former_surcharge computed_charge discount loss_charge reason factor_at surcharge surcharge_factor factor_by_table surcharge_by_table all_of sum_by consumption_at generation_charge generation_of tangent_of weighted_at bills_of call_refusal refusal_with over_sites answer_to decimal digits_within bill_text names_text sites_text site_text fields_text refusal_text
 all_hold = refl
 
 -- what each part of the test means
@@ -105,13 +106,16 @@ entry (whole_bill file list settled network) e =
 entry (file_case file bytes) e = (bytes_decides file bytes).0 e
 entry (printed file text) e = (bytes_decides _ (ascii text)).0 e
 entry (former_case file k list) e = (bytes_decides _ list).0 e
+entry (by_table_case file k list) e = (bytes_decides _ list).0 e
 entry (refused_case file number place) e = refuses_is number place (refusal file) e
 entry (active_case file k wp) e =
     let a = and_both _ _ e in
     (accepts_is (refusal file) a.0, eqb-true _ wp a.1)
 entry (tangent_case wq wp tg) e = eqb-true _ tg e
 entry (estimate_case tg wp out) e = eqb-true _ out e
-entry (surcharge_case tg pc p2) e = eqb-true _ p2 e
+entry (surcharge_case tg pc p2) e =
+    let a = and_both _ _ e in
+    (eqb-true _ p2 a.0, eqb-true _ p2 a.1)
 entry (charge_case product pc) e = eqb-true _ pc e
 entry (reason_case c g r) e = eqb-true _ r e
 entry (balance_case file energy measured balanced uncut) e =

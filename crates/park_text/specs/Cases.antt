@@ -1,6 +1,6 @@
 -- Park Alder, byte by byte, and the starred cases (01, "Park Alder, and its neighbours"; tg as 02, R-4, has it), as entries of one list, with
 -- what is printed for Alder, for Alder with WQ 40,000 on line 2 and for one file that is refused, site 2 of Alder with WQ 40,000 on line 2 under
--- the former limit of tg, two parks in which no meter tells what a site sends on, and four parks that show what the condition of the loss
+-- the former limit of tg and by the operators' table, two parks in which no meter tells what a site sends on, and four parks that show what the condition of the loss
 -- balance is for; and parks of version 2, with and without generators, accepted and refused (02, R-5). `holds` says of each entry whether it is
 -- so; `Says` is what it then means. `all_cases` of CaseTest is the proof of `AllCases`.
 -- Assumes nothing.
@@ -15,8 +15,10 @@ use Rattle.park_format.specs.Accepted.{Every}
 use Rattle.park_format.specs.declared.line.Line.{Line}
 use Rattle.park_charge.specs.Flow.{estimated_out, tangent}
 use Rattle.park_charge.specs.Charge.{loss_charge, reason, surcharge}
+use Rattle.park_charge.specs.ByTable.{surcharge_by_table}
 use Rattle.park_sums.specs.Sums.{all_of}
 use Rattle.park_bill.specs.Bill.{active_net, bill_numbers, touching, words}
+use Rattle.park_bill.specs.ByTable.{bill_by_table}
 use Rattle.park_bill.specs.Former.{former_bill}
 use Rattle.park_bill.specs.Reply.{bills_of, in_list, in_reply, list_after, site_outcome}
 use Rattle.park_bill.specs.Balance.{added, AllZero, Balance, Measured, network_energy}
@@ -40,6 +42,8 @@ pub data Case : Type 0 where
   printed : List ℕ → String → Case
   -- a file, a site, and its numbers with the former limit of tg
   former_case : List ℕ → ℕ → List ℕ → Case
+  -- a file, a site, and its numbers with the surcharge by the operators' table
+  by_table_case : List ℕ → ℕ → List ℕ → Case
   -- a file and its refusal: number and place
   refused_case : List ℕ → ℕ → ℕ → Case
   -- a file that is accepted, a site, and its WP0
@@ -48,7 +52,7 @@ pub data Case : Type 0 where
   tangent_case : ℕ → ℕ → ℕ → Case
   -- tg, WP and the flow of a transit without a meter
   estimate_case : ℕ → ℕ → ℕ → Case
-  -- tg, Pc and P2
+  -- tg, Pc and P2, by the formula and by the operators' table
   surcharge_case : ℕ → ℕ → ℕ → Case
   -- settled × T and Pc
   charge_case : ℕ → ℕ → Case
@@ -67,6 +71,7 @@ cases =
     ∷ whole_bill alder_cut (0 ∷ 0 ∷ 0 ∷ 7930000 ∷ 100000 ∷ 0 ∷ 334500 ∷ 0 ∷ 0 ∷ 334500 ∷ 0 ∷ 44000 ∷ 2933 ∷ 30676000 ∷ 0 ∷ 0 ∷ 1533800 ∷ 0 ∷ 4697263 ∷ 153380 ∷ 6077683 ∷ 0 ∷ []) 30676000 22746000
     ∷ whole_bill alder_high (22000 ∷ 99999 ∷ 14470000 ∷ 0 ∷ 100000 ∷ 723500 ∷ 334500 ∷ 2215719 ∷ 0 ∷ 3273719 ∷ 0 ∷ 12000 ∷ 800 ∷ 8276000 ∷ 0 ∷ 0 ∷ 413800 ∷ 0 ∷ 125175 ∷ 41380 ∷ 497595 ∷ 0 ∷ []) 22746000 22746000
     ∷ whole_bill alder_unmetered (22500 ∷ 750 ∷ 14820000 ∷ 0 ∷ 100000 ∷ 741000 ∷ 334500 ∷ 185250 ∷ 0 ∷ 1260750 ∷ 0 ∷ 12000 ∷ 800 ∷ 8276000 ∷ 0 ∷ 0 ∷ 413800 ∷ 0 ∷ 125175 ∷ 41380 ∷ 497595 ∷ 0 ∷ []) 23096000 22746000
+    ∷ by_table_case alder_cut 2 (44000 ∷ 2933 ∷ 30676000 ∷ 0 ∷ 0 ∷ 1533800 ∷ 0 ∷ 4697263 ∷ 153380 ∷ 6077683 ∷ 0 ∷ [])
     ∷ former_case alder_cut 2 (44000 ∷ 2000 ∷ 30676000 ∷ 0 ∷ 0 ∷ 1533800 ∷ 0 ∷ 4697263 ∷ 153380 ∷ 6077683 ∷ 0 ∷ [])
     ∷ tangent_case 1 2000 1
     ∷ tangent_case 0 0 800
@@ -88,6 +93,8 @@ cases =
     ∷ surcharge_case 2000 1000000 3062500
     ∷ surcharge_case 2001 1000000 3062500
     ∷ surcharge_case 99999 1000000 3062500
+    ∷ surcharge_case 2000 640000000000 1960000000000
+    ∷ surcharge_case 99999 640000000000 1960000000000
     ∷ charge_case 4999999 0
     ∷ charge_case 5000000 1
     ∷ reason_case 999 9999 2
@@ -177,11 +184,12 @@ holds (whole_bill file list settled network) =
 holds (file_case file bytes) = same file bytes
 holds (printed file text) = same (answer_to file) (ascii text)
 holds (former_case file k list) = same (words (former_bill (park_of file) k)) list
+holds (by_table_case file k list) = same (words (bill_by_table (park_of file) k)) list
 holds (refused_case file number place) = refuses number place (refusal file)
 holds (active_case file k wp) = accepts (refusal file) && eqb (active_net (touching k (park_of file))) wp
 holds (tangent_case wq wp tg) = eqb (tangent wp wq) tg
 holds (estimate_case tg wp out) = eqb (estimated_out tg wp) out
-holds (surcharge_case tg pc p2) = eqb (surcharge pc tg) p2
+holds (surcharge_case tg pc p2) = eqb (surcharge pc tg) p2 && eqb (surcharge_by_table pc tg) p2
 holds (charge_case product pc) = eqb (loss_charge product 1) pc
 holds (reason_case c g r) = eqb (reason 16 c g) r
 holds (balance_case file energy measured balanced uncut) =
@@ -205,11 +213,12 @@ Says (whole_bill file list settled network) =
 Says (file_case file bytes) = file ≡ bytes
 Says (printed file text) = answer_to file ≡ ascii text
 Says (former_case file k list) = words (former_bill (park_of file) k) ≡ list
+Says (by_table_case file k list) = words (bill_by_table (park_of file) k) ≡ list
 Says (refused_case file number place) = refusal file ≡ some (number, place)
 Says (active_case file k wp) = IsAccepted file × (active_net (touching k (park_of file)) ≡ wp)
 Says (tangent_case wq wp tg) = tangent wp wq ≡ tg
 Says (estimate_case tg wp out) = estimated_out tg wp ≡ out
-Says (surcharge_case tg pc p2) = surcharge pc tg ≡ p2
+Says (surcharge_case tg pc p2) = (surcharge pc tg ≡ p2) × (surcharge_by_table pc tg ≡ p2)
 Says (charge_case product pc) = loss_charge product 1 ≡ pc
 Says (reason_case c g r) = reason 16 c g ≡ r
 Says (balance_case file energy measured balanced uncut) =

@@ -8,9 +8,13 @@ ghost use Rattle.park_text.specs.Buffer.{Starts};
 ghost use Rattle.parkbill.specs.Answers.{AnswersEvery};
 ghost use Rattle.parkbill.specs.Read.{IsPrefixLen, ReadInput, ReadMore};
 
+use park_bill::SurchargeBy;
 use park_format::file;
 use std::io;
 use std::io::Read;
+
+// The setting: by Formula the surcharge's factor is worked out, by Table it is read from the operators' table. The answers are the same.
+const SURCHARGE: SurchargeBy = SurchargeBy::Formula;
 
 // One byte more than the longest accepted file has, so that a longer input has the answer of those that are read. Input and text have buffers of
 // fixed size, and functions answer how much of them counts, since nothing is allocated.
@@ -46,7 +50,7 @@ fn answer(bytes: &[u8], text: &mut [u8; park_text::ROOM]) -> usize
     ensures within { IsPrefixLen result text.new }
 {
     let mut list = [0u64; park_text::NUMBERS];
-    let reply = park_bill::bill_park(bytes, &mut list);
+    let reply = park_bill::bill_park_by(SURCHARGE, bytes, &mut list);
     let Err(refusal) = reply else {
         return park_text::bill(reply.unwrap_or(0), &list, text);
     };

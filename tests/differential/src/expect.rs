@@ -3,7 +3,7 @@
 use crate::calculator::{bill_park, bill_site, check, printed, Refusal};
 use crate::compare::Tester;
 use crate::park::Park;
-use crate::product::{Reply, UNWRITTEN};
+use crate::product::{Reply, UNWRITTEN, WAYS};
 
 // Places of the eleven numbers.
 pub const CONSUMPTION: usize = 0;
@@ -18,7 +18,8 @@ pub const P3: usize = 8;
 pub const TOTAL: usize = 9;
 pub const REASON: usize = 10;
 
-/// Holds a site's numbers, named by their places, against both; then everything about the file.
+/// Holds a site's numbers, named by their places, against both, the product by both ways to the
+/// surcharge; then everything about the file.
 pub fn expect_numbers(
     tester: &mut Tester,
     name: &str,
@@ -29,17 +30,22 @@ pub fn expect_numbers(
     let file = park.to_file();
     let bill = bill_site(&file, site).expect("a named case is accepted");
     let bills = bill_park(&file, 11 * park.sites.len()).expect("a named case is accepted");
-    let mut product_bill = [UNWRITTEN; 11];
-    tester.product.bill_site(&file, &mut product_bill, site);
-    let mut product_bills = vec![UNWRITTEN; 11 * park.sites.len()];
-    tester.product.bill_park(&file, &mut product_bills);
     for (place, value) in numbers {
         tester.same(format_args!("calculator, number {place}"), *value, bill[*place]);
         let in_park = bills[site as usize - 1][*place];
         tester.same(format_args!("calculator, number {place} in the park"), *value, in_park);
-        tester.same(format_args!("product, number {place}"), *value, product_bill[*place]);
-        let in_park = product_bills[11 * (site as usize - 1) + *place];
-        tester.same(format_args!("product, number {place} in the park"), *value, in_park);
+    }
+    for way in WAYS {
+        let mut bill = [UNWRITTEN; 11];
+        tester.product.bill_site(way, &file, &mut bill, site);
+        let mut list = vec![UNWRITTEN; 11 * park.sites.len()];
+        tester.product.bill_park(way, &file, &mut list);
+        for (place, value) in numbers {
+            tester.same(format_args!("product {way}, number {place}"), *value, bill[*place]);
+            let in_park = list[11 * (site as usize - 1) + *place];
+            let what = format_args!("product {way}, number {place} in the park");
+            tester.same(what, *value, in_park);
+        }
     }
     tester.file(name, &file);
     tester.print(name, &file);

@@ -4,6 +4,7 @@
 use crate::compare::Tester;
 use crate::layout::Version;
 use crate::park::{Park, ACTIVE_GENERATED_METER};
+use crate::product::Way;
 use crate::rules::accepted_park;
 use crate::steps::{work_out, Bill};
 
@@ -18,8 +19,8 @@ fn first(park: &Park) -> Park {
 }
 
 impl Tester<'_> {
-    /// Compares bills of the product for an accepted park with those of its version 1.
-    pub fn same_without_generators(&mut self, park: &Park, bills: &[Bill]) {
+    /// Compares bills of the product by a way for an accepted park with those of its version 1.
+    pub fn same_without_generators(&mut self, way: Way, park: &Park, bills: &[Bill]) {
         if park.version == Version::One {
             return;
         }
@@ -30,7 +31,7 @@ impl Tester<'_> {
         for (site, bill) in (1..).zip(bills) {
             if park.generators.iter().all(|generator| generator.site as usize != site) {
                 let right = work_out(&former, site).bill();
-                self.same(format_args!("bill as before R-5"), right, *bill);
+                self.same(format_args!("bill {way} as before R-5"), right, *bill);
             }
         }
     }

@@ -4,6 +4,7 @@
 
 use crate::compare::Tester;
 use crate::park::Park;
+use crate::product::Way;
 use crate::steps::{round, work_out_by, Bill, TangentSteps};
 
 const TANGENT_STEPS: TangentSteps = TangentSteps { tangent, surcharge };
@@ -31,12 +32,12 @@ pub fn bills(park: &Park) -> Vec<Bill> {
 }
 
 impl Tester<'_> {
-    /// Compares bills of the product with those of before, the tangents limited as then.
-    pub fn same_bills_as_before(&mut self, former: &[Bill], bills: &[Bill]) {
+    /// Compares bills of the product by a way with those of before, the tangents limited as then.
+    pub fn same_bills_as_before(&mut self, way: Way, former: &[Bill], bills: &[Bill]) {
         for (former, bill) in former.iter().zip(bills) {
             let mut limited = *bill;
             limited[1] = limited[1].min(2_000);
-            self.same(format_args!("bill as before R-4"), *former, limited);
+            self.same(format_args!("bill {way} as before R-4"), *former, limited);
         }
     }
 }

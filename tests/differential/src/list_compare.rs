@@ -3,7 +3,7 @@
 //! back, and for a refused list the file so written, where there is one.
 
 use crate::branches::Branch;
-use crate::calculator::{self, Refusal};
+use crate::calculator::{self, Bill, Refusal};
 use crate::compare::{reply_to, Tester};
 use crate::failures::Case;
 use crate::fields::all_fit;
@@ -12,7 +12,7 @@ use crate::former_tangents;
 use crate::layout::Version;
 use crate::list::{list_of_file, HEADER_NUMBERS};
 use crate::park::{Header, Park};
-use crate::product::{Reply, UNWRITTEN};
+use crate::product::{Reply, Way, UNWRITTEN, WAYS};
 use crate::rules::listed_park;
 
 /// Bytes kept free on both sides of a buffer, which no call may touch.
@@ -139,24 +139,31 @@ impl Tester<'_> {
     }
 
     /// The file that the product made of an accepted list: it is accepted, reads back as the same
-    /// list, and is billed as the list's park.
+    /// list, and is billed as the list's park by both ways.
     fn compare_made(&mut self, numbers: &[u32], park: &Park, made: &[u8]) {
         let accepted = Reply { number: 0, place: 0 };
         self.same(format_args!("check of the file made"), accepted, self.product.check(made));
         let read_back = calculator::decode(made);
         self.same(format_args!("the file made, read back"), Ok(numbers.to_vec()), read_back);
-        let bills = calculator::bills(park);
+        let (bills, former_bills) = (calculator::bills(park), former_tangents::bills(park));
+        for way in WAYS {
+            self.compare_made_bills(way, made, &bills, &former_bills);
+        }
+    }
+
+    /// The bills of a file made, of the park and of its last site.
+    fn compare_made_bills(&mut self, way: Way, made: &[u8], bills: &[Bill], former: &[Bill]) {
+        let accepted = Reply { number: 0, place: 0 };
         let mut list = vec![UNWRITTEN; 11 * bills.len()];
-        let reply = self.product.bill_park(made, &mut list);
-        self.same(format_args!("the park made"), (accepted, bills.len() as u64), reply);
-        self.same(format_args!("the park made, bills"), bills.as_flattened(), &list);
-        let former_bills = former_tangents::bills(park);
-        self.same_bills_as_before(&former_bills, list.as_chunks().0);
+        let reply = self.product.bill_park(way, made, &mut list);
+        self.same(format_args!("the park made {way}"), (accepted, bills.len() as u64), reply);
+        self.same(format_args!("the park made {way}, bills"), bills.as_flattened(), &list);
+        self.same_bills_as_before(way, former, list.as_chunks().0);
         let mut bill = [UNWRITTEN; 11];
-        let reply = self.product.bill_site(made, &mut bill, bills.len() as u64);
-        self.same(format_args!("last site made"), accepted, reply);
-        self.same(format_args!("last site made, bill"), bills.last(), Some(&bill));
-        self.same_bills_as_before(&former_bills[bills.len() - 1..], &[bill]);
+        let reply = self.product.bill_site(way, made, &mut bill, bills.len() as u64);
+        self.same(format_args!("last site made {way}"), accepted, reply);
+        self.same(format_args!("last site made {way}, bill"), bills.last(), Some(&bill));
+        self.same_bills_as_before(way, &former[bills.len() - 1..], &[bill]);
     }
 
     /// A refused list that can be written as a file: the file is refused alike.

@@ -1,5 +1,6 @@
 //! The differential test program of the park bill: a calculator written from papers 01 and 02 (R-1
-//! to R-5) alone, held against the product's four calls and its program parkbill.
+//! to R-6) alone, held against the product's six calls and its program parkbill. Every file is
+//! billed by both ways to the surcharge; the calculator works it out by the formula.
 //!
 //! - `park_tests` runs the named cases, the example files, the refusals, the sweeps and the generated
 //!   files, and for lists of a park's numbers the named ones, refusals, limits and generated ones,
@@ -15,6 +16,7 @@
 //! branch was reached, else 1.
 
 mod balance;
+mod bill_compare;
 mod branches;
 mod breaches;
 mod calculator;
@@ -51,13 +53,16 @@ mod marks_coverage;
 mod mistakes;
 mod mock;
 mod mock_active;
+mod mock_calls;
 mod mock_encode;
 mod mock_ends;
 mod mock_generators;
 mod mock_last;
 mod mock_layout;
 mod mock_marks;
+mod mock_one_way;
 mod mock_steps;
+mod mock_surcharge;
 mod mock_tangents;
 mod named;
 mod named_ends;
@@ -79,6 +84,7 @@ mod shape_coverage;
 mod shapes;
 mod steps;
 mod sweeps;
+mod table_sweeps;
 mod tangents_coverage;
 mod touching;
 

@@ -2,18 +2,17 @@
 //! gathers all breaches of 01's table and takes the first. Where it finds the records of either
 //! version is in mock_layout.rs; its rules for the ends of lines are in mock_ends.rs, that for their
 //! marks in mock_marks.rs, those for generators in mock_generators.rs; its steps are in
-//! mock_steps.rs, mock_tangents.rs and mock_active.rs, and its making of files in mock_encode.rs. It
-//! can be told to make one mistake.
-
-use std::io;
+//! mock_steps.rs, mock_tangents.rs, mock_active.rs and mock_surcharge.rs, its calls in
+//! mock_calls.rs, and its making of files in mock_encode.rs. It can be told to make one mistake,
+//! and, in mock_one_way.rs, to make it by one way to the surcharge alone.
 
 use crate::mistakes::Mistake;
 use crate::mock_last::Last;
-use crate::product::{Product, Reply, UNWRITTEN};
+use crate::product::{Reply, Way, UNWRITTEN};
 use crate::steps::Bill;
 
-/// The second path, with at most one mistake, its last refusal and its last bills.
-pub struct Mock(pub Option<Mistake>, Last<(u64, u64)>, Last<Vec<Bill>>);
+/// The second path, with at most one mistake, its last refusal and its last bills by each way.
+pub struct Mock(pub Option<Mistake>, Last<(u64, u64)>, [Last<Vec<Bill>>; 2]);
 
 pub fn at(file: &[u8], offset: usize, width: usize) -> i64 {
     (0..width).map(|byte| (file[offset + byte] as i64) << (8 * byte)).sum()
@@ -27,7 +26,7 @@ fn hours(month: i64) -> i64 {
 
 impl Mock {
     pub fn new(mistake: Option<Mistake>) -> Mock {
-        Mock(mistake, Last::default(), Last::default())
+        Mock(mistake, Last::default(), Default::default())
     }
 
     pub fn makes(&self, mistake: Mistake) -> bool {
@@ -40,8 +39,8 @@ impl Mock {
     }
 
     /// The bills of all sites of an accepted file.
-    pub fn bills(&self, file: &[u8]) -> Vec<Bill> {
-        self.2.answer(file, || self.work_out(file))
+    pub fn bills(&self, way: Way, file: &[u8]) -> Vec<Bill> {
+        self.2[way as usize].answer(file, || self.work_out(way, file))
     }
 
     fn first_refusal(&self, file: &[u8]) -> (u64, u64) {
@@ -66,7 +65,9 @@ impl Mock {
         found.extend(least.map(|site| (7, site as u64, 19)));
         match found.into_iter().min_by_key(|(stage, place, _)| (*stage, *place)) {
             None if self.makes(Mistake::RefusesEverything) => (9, 0),
-            None if self.makes(Mistake::TangentRefusedAboveLimit) => self.tangent_refusal(file),
+            None if self.makes(Mistake::TangentRefusedAboveLimit) => {
+                self.tangent_refusal(file, 99_999)
+            }
             None => (0, 0),
             Some((_, place, number @ (14..=18 | 23 | 24)))
                 if self.makes(Mistake::LinePlaceFromZero) =>
@@ -160,80 +161,4 @@ impl Mock {
         let unwritten = number == 0 && self.makes(Mistake::PlaceLeftUnwritten);
         Reply { number, place: if unwritten { UNWRITTEN } else { place } }
     }
-}
-
-impl Product for Mock {
-    fn check(&self, file: &[u8]) -> Reply {
-        self.reply(self.refusal(file))
-    }
-
-    fn bill_site(&self, file: &[u8], bill: &mut Bill, site: u64) -> Reply {
-        let site = if self.makes(Mistake::SiteTakenAsByte) { site & 255 } else { site };
-        let mut refusal = self.former_if(Mistake::FormerEndsBilled, self.refusal(file));
-        if refusal.0 == 0 && (site == 0 || site > file[6] as u64) {
-            refusal = (20, 0);
-        }
-        if refusal.0 == 0 {
-            let right = self.bills_unless(Mistake::FormerActiveOfSite, file)[site as usize - 1];
-            *bill = self.former_tangent_if(Mistake::FormerTangentOfSite, right);
-        } else if self.makes(Mistake::BillWrittenOnRefusal) {
-            *bill = [0; 11];
-        }
-        self.reply(refusal)
-    }
-
-    fn bill_park(&self, file: &[u8], list: &mut [u64]) -> (Reply, u64) {
-        let mut refusal = self.former_if(Mistake::FormerEndsBilled, self.refusal(file));
-        let least = 11 * file.get(6).map_or(0, |sites| *sites as usize);
-        let longer = list.len() > least && self.makes(Mistake::LongerListRefused);
-        let short = list.len() < least && !self.makes(Mistake::ShortListAccepted);
-        if refusal.0 == 0 && (short || longer) {
-            refusal = (21, 0);
-        }
-        if refusal.0 != 0 {
-            if self.makes(Mistake::ListWrittenOnRefusal) && !list.is_empty() {
-                list[0] = 0;
-            }
-            return (self.reply(refusal), 0);
-        }
-        let in_park = |bill| self.former_tangent_if(Mistake::FormerTangentInPark, bill);
-        let bills = self.bills_unless(Mistake::FormerActiveInPark, file);
-        let numbers = bills.into_iter().flat_map(in_park);
-        for (place, number) in list.iter_mut().zip(numbers) {
-            *place = number;
-        }
-        if self.makes(Mistake::WritesPastTheBills) && list.len() > least {
-            list[least] = 0;
-        }
-        let by_length = self.makes(Mistake::SitesFromListLength);
-        (self.reply(refusal), if by_length { list.len() as u64 / 11 } else { file[6] as u64 })
-    }
-
-    fn encode(&self, numbers: &[u32], file: &mut [u8]) -> (Reply, u64) {
-        self.make(numbers, file)
-    }
-
-    fn printed(&self, file: &[u8]) -> io::Result<Vec<u8>> {
-        let file = self.bytes_read(file);
-        let mut text = match self.former_if(Mistake::FormerEndsPrinted, self.refusal(file)) {
-            (0, _) => {
-                let bills = self.bills_unless(Mistake::FormerActivePrinted, file);
-                table(bills.into_iter().map(|bill| self.printed_bill(bill)))
-            }
-            (number, place) => format!("refused,{number},{place}\n"),
-        };
-        if self.makes(Mistake::LastNewlineMissing) {
-            text.pop();
-        }
-        Ok(text.into_bytes())
-    }
-}
-
-fn table(bills: impl Iterator<Item = Bill>) -> String {
-    let names = "site,consumption,tg,settled,cut,generation,pc,pg,p2,p3,total,reason\n";
-    let row = |(site, bill): (usize, Bill)| {
-        let numbers: Vec<String> = bill.iter().map(u64::to_string).collect();
-        format!("{},{}\n", site + 1, numbers.join(","))
-    };
-    names.to_string() + &bills.enumerate().map(row).collect::<String>()
 }

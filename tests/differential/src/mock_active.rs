@@ -3,7 +3,6 @@
 use crate::mistakes::Mistake;
 use crate::mock::{at, Mock};
 use crate::mock_steps::Tally;
-use crate::steps::Bill;
 
 impl Mock {
     /// Adds a line's part at one of its ends.
@@ -106,14 +105,6 @@ impl Mock {
             (Some(Mistake::MarkEightHidesReactive), mark @ 8..) => mark & 6,
             (Some(Mistake::MarkEightHidesNight), mark @ 8..) => mark & 3,
             (_, mark) => mark,
-        }
-    }
-
-    /// The bills, or with this mistake those without generators.
-    pub fn bills_unless(&self, mistake: Mistake, file: &[u8]) -> Vec<Bill> {
-        match self.makes(mistake) {
-            true => Mock::new(Some(Mistake::FormerActive)).bills(file),
-            false => self.bills(file),
         }
     }
 }

@@ -3,6 +3,7 @@
 
 use crate::mistakes::Mistake;
 use crate::mock::Mock;
+use crate::product::Way;
 use crate::steps::Bill;
 
 impl Mock {
@@ -69,9 +70,9 @@ impl Mock {
         self.former_tangent_if(Mistake::FormerTangentPrinted, bill)
     }
 
-    /// The refusal of an accepted file in which a tangent is above the limit; 0 and 0 if none is.
-    pub fn tangent_refusal(&self, file: &[u8]) -> (u64, u64) {
-        let above = self.bills(file).iter().position(|bill| bill[1] > 99_999);
+    /// The refusal of an accepted file in which a tangent is above this limit; 0 and 0 if none is.
+    pub fn tangent_refusal(&self, file: &[u8], most: u64) -> (u64, u64) {
+        let above = self.bills(Way::Formula, file).iter().position(|bill| bill[1] > most);
         above.map_or((0, 0), |index| (17, index as u64 + 1))
     }
 }

@@ -1,7 +1,8 @@
 //! The named cases of 01 ("Park Alder, and its neighbours"), starred and unstarred, and a few of
 //! "Shortcuts the annex forbids"; those of 02 are in named_ends.rs, named_marks.rs,
-//! named_tangents.rs and named_generators.rs. Every expected value is written by hand from
-//! the paper, and is held against the calculator as well as against the product.
+//! named_tangents.rs (R-4, and the largest Pc for R-6) and named_generators.rs. Every
+//! expected value is written by hand from the paper, and is held against the calculator as well as
+//! against the product.
 
 use crate::balance::balance;
 use crate::compare::Tester;
@@ -16,7 +17,7 @@ use crate::named_tangents;
 use crate::park::Park;
 use crate::parks::{alder, alder_cut, one_line, small_park};
 use crate::parks::{ALDER_CUT_PRINTED, ALDER_FILE, ALDER_PRINTED};
-use crate::product::UNWRITTEN;
+use crate::product::{UNWRITTEN, WAYS};
 
 /// Runs all named cases.
 pub fn run(tester: &mut Tester) {
@@ -36,11 +37,14 @@ pub fn run(tester: &mut Tester) {
 fn alders(tester: &mut Tester) {
     let file = alder().to_file();
     tester.same(format_args!("Alder's bytes"), &ALDER_FILE[..], &file[..]);
-    let mut list = [UNWRITTEN; 22];
-    tester.product.bill_park(&ALDER_FILE, &mut list);
-    let bills = [0, 11].map(|start| list[start..start + 11].try_into().expect("eleven"));
-    let energies = balance(&alder(), &bills).map(|balance| (balance.settled, balance.network));
-    tester.same(format_args!("Alder's energies"), Some((22_746_000, 22_746_000)), energies);
+    for way in WAYS {
+        let mut list = [UNWRITTEN; 22];
+        tester.product.bill_park(way, &ALDER_FILE, &mut list);
+        let bills = [0, 11].map(|start| list[start..start + 11].try_into().expect("eleven"));
+        let energies = balance(&alder(), &bills).map(|balance| (balance.settled, balance.network));
+        let right = Some((22_746_000, 22_746_000));
+        tester.same(format_args!("Alder's energies {way}"), right, energies);
+    }
     expect_printed(tester, "Alder", &alder(), ALDER_PRINTED);
     expect_printed(tester, "Alder, WQ 40,000 on line 2", &alder_cut(), ALDER_CUT_PRINTED);
 }

@@ -1,6 +1,6 @@
 //! Named tangents (02, R-4): around 2,000, around 99,999 and far above it, and what the rest of the
-//! bill makes of them. Every expected value is written by hand from the papers, and is held against
-//! the calculator as well as against the product.
+//! bill makes of them, the surcharge also of the largest Pc. Every expected value is written
+//! by hand from the papers, and is held against the calculator as well as against the product.
 
 use crate::compare::Tester;
 use crate::expect::{expect_numbers, expect_printed};
@@ -24,6 +24,17 @@ const OF_ONE_CHARGE: [(u32, u64, u64); 13] = [
     (1, 99_999, 3_062_500),
     // WP0 0.
     (0, 800, 302_500),
+];
+
+/// WP, tg and P2 of 64 such lines at D 5,000 and T 2,000,000, whose Pc is the largest,
+/// 640,000,000,000.
+const OF_LARGEST_CHARGE: [(u32, u64, u64); 6] = [
+    (10_000_000, 1_000, 360_000_000_000),
+    (8_000_000, 1_250, 640_000_000_000),
+    (5_002_501, 1_999, 1_957_760_640_000),
+    (5_000_000, 2_000, 1_960_000_000_000),
+    (4_997_501, 2_001, 1_960_000_000_000),
+    (1_000_000, 10_000, 1_960_000_000_000),
 ];
 
 /// WQ, tg and P2 of a line with WP 10,000: tg is a tenth of WQ, rounded and limited, and Pc as much
@@ -77,6 +88,7 @@ site,consumption,tg,settled,cut,generation,pc,pg,p2,p3,total,reason
 pub fn run(tester: &mut Tester) {
     four_sites(tester);
     of_one_charge(tester);
+    of_largest_charge(tester);
     rounded(tester);
     far_above(tester);
     of_nothing(tester);
@@ -103,6 +115,16 @@ fn of_one_charge(tester: &mut Tester) {
         let numbers =
             [(TANGENT, tangent), (PC, 1_000_000), (P2, surcharge), (TOTAL, 1_000_000 + surcharge)];
         let name = format!("WQ0 10,000,000, WP0 {active}");
+        expect_numbers(tester, &name, &park, 1, &numbers);
+    }
+}
+
+fn of_largest_charge(tester: &mut Tester) {
+    for (active, tangent, surcharge) in OF_LARGEST_CHARGE {
+        let lines = [[0, 1, 1, 5_000, active, 10_000_000, 0, 0]; 64];
+        let park = small_park(2_000_000, &[[16, 0, 0, 0, 0]], &lines);
+        let numbers = [(TANGENT, tangent), (PC, 640_000_000_000), (P2, surcharge)];
+        let name = format!("64 lines with WQ 10,000,000, WP {active}");
         expect_numbers(tester, &name, &park, 1, &numbers);
     }
 }

@@ -1,8 +1,10 @@
-//! The product under test, behind a trait: its four exported C calls and its program parkbill.
+//! The product under test, behind a trait: its six exported C calls, two of which bill by the
+//! formula and two by the table of the surcharge (02, R-6), and its program parkbill.
 //!
 //! Every place that a call should write holds `UNWRITTEN` before it, so that a place it leaves
 //! alone is seen.
 
+use std::fmt::{self, Display, Formatter};
 use std::io::{self, Write};
 use std::path::{Path, PathBuf};
 use std::process::{Command, Stdio};
@@ -21,14 +23,32 @@ pub struct Reply {
     pub place: u64,
 }
 
+/// The way to the surcharge: its factor worked out, or read from the table (02, R-6).
+#[derive(Clone, Copy, Debug, PartialEq, Eq)]
+pub enum Way {
+    Formula,
+    Table,
+}
+
+pub const WAYS: [Way; 2] = [Way::Formula, Way::Table];
+
+impl Display for Way {
+    fn fmt(&self, text: &mut Formatter) -> fmt::Result {
+        text.write_str(match self {
+            Way::Formula => "by formula",
+            Way::Table => "by table",
+        })
+    }
+}
+
 pub trait Product {
     fn check(&self, file: &[u8]) -> Reply;
 
     /// Bills one site into `bill`, which a refusal leaves as it was.
-    fn bill_site(&self, file: &[u8], bill: &mut Bill, site: u64) -> Reply;
+    fn bill_site(&self, way: Way, file: &[u8], bill: &mut Bill, site: u64) -> Reply;
 
     /// Bills the park into `list`, which a refusal leaves as it was; also gives the site count.
-    fn bill_park(&self, file: &[u8], list: &mut [u64]) -> (Reply, u64);
+    fn bill_park(&self, way: Way, file: &[u8], list: &mut [u64]) -> (Reply, u64);
 
     /// Makes the file of a list of numbers in `file`, which a refusal leaves as it was; also gives
     /// the file's length.
@@ -51,22 +71,27 @@ impl Product for Linked {
         Reply { number, place }
     }
 
-    fn bill_site(&self, file: &[u8], bill: &mut Bill, site: u64) -> Reply {
+    fn bill_site(&self, way: Way, file: &[u8], bill: &mut Bill, site: u64) -> Reply {
+        let call: c::BillSite = match way {
+            Way::Formula => c::park_bill_site,
+            Way::Table => c::park_bill_site_by_table,
+        };
         let mut place = UNWRITTEN;
         // SAFETY: as in `check`; the bill is eleven numbers.
-        let number =
-            unsafe { c::park_bill_site(file.as_ptr(), file.len(), bill, site, &mut place) };
+        let number = unsafe { call(file.as_ptr(), file.len(), bill, site, &mut place) };
         Reply { number, place }
     }
 
-    fn bill_park(&self, file: &[u8], list: &mut [u64]) -> (Reply, u64) {
+    fn bill_park(&self, way: Way, file: &[u8], list: &mut [u64]) -> (Reply, u64) {
+        let call: c::BillPark = match way {
+            Way::Formula => c::park_bill_park,
+            Way::Table => c::park_bill_park_by_table,
+        };
         let (mut place, mut sites) = (UNWRITTEN, UNWRITTEN);
         let (list_ptr, list_len) = (list.as_mut_ptr(), list.len());
         // SAFETY: as in `check`; the list's length is the slice's own.
-        let number = unsafe {
-            let file_ptr = file.as_ptr();
-            c::park_bill_park(file_ptr, file.len(), list_ptr, list_len, &mut place, &mut sites)
-        };
+        let number =
+            unsafe { call(file.as_ptr(), file.len(), list_ptr, list_len, &mut place, &mut sites) };
         (Reply { number, place }, sites)
     }
 

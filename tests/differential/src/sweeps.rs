@@ -1,10 +1,12 @@
 //! Sweeps: every value of one thing while the rest stays, in places where a table or a byte may be
-//! wrong at a single value. Those over files of version 2 are in generator_sweeps.rs.
+//! wrong at a single value. Those over files of version 2 are in generator_sweeps.rs, and that over
+//! the table of the surcharge is in table_sweeps.rs.
 
 use crate::compare::Tester;
 use crate::generator_sweeps;
 use crate::park::{Park, MONTH_HOURS};
 use crate::parks::{alder, one_line, small_park, with_line};
+use crate::table_sweeps;
 
 pub fn run(tester: &mut Tester) {
     every_byte(tester);
@@ -15,6 +17,7 @@ pub fn run(tester: &mut Tester) {
     tenths_of_tangents(tester);
     around_the_reasons(tester);
     generator_sweeps::run(tester);
+    table_sweeps::run(tester);
 }
 
 /// Park Alder with each byte set to each value.

@@ -24,8 +24,8 @@ module _ (file : List ℕ) {reply : Result ℕ Refusal} (answers : reply_of repl
 
 pub returns-in_default-clause-text : goal.returns-in_default-clause-text
 returns-in_default-clause-text c =
-    every ROOM c.args.bytes.now (omega (arith, latest_sizes)) c.bill.ensures (billed c.args.bytes.now c.bill_park-reply.ensures.reply c.in_default.is c.unwrap_or.ensures c.bill_park-reply.ensures.written)
+    every ROOM c.args.bytes.now (omega (arith, latest_sizes)) c.bill.ensures (billed c.args.bytes.now c.bill_park_by-reply.ensures.reply c.in_default.is c.unwrap_or.ensures c.bill_park_by-reply.ensures.written)
 
 pub returns-clause-text : goal.returns-clause-text
 returns-clause-text c =
-    every ROOM c.args.bytes.now (omega (arith, latest_sizes)) c.refusal.ensures (refused c.args.bytes.now c.bill_park-reply.ensures.reply c.in-Err.is c.from.ensures c.from-2.ensures)
+    every ROOM c.args.bytes.now (omega (arith, latest_sizes)) c.refusal.ensures (refused c.args.bytes.now c.bill_park_by-reply.ensures.reply c.in-Err.is c.from.ensures c.from-2.ensures)

@@ -4,7 +4,7 @@ use Rattle.park_format.specs.Opened.{opened_park}
 use Rattle.park_bill.specs.Reply.{list_after}
 use Rattle.park_bill.proofs.Outcomes.{list_in_balance}
 use Rattle.park_bill.proofs.Refusals.{list_left, list_refused, park_answered, park_refused}
-use Rattle.park_bill.proofs.call.bill_park.Goals as goal
+use Rattle.park_bill.proofs.call.bill_park_by.Goals as goal
 
 pub returns-in_err-park-clause-reply : goal.returns-in_err-park-clause-reply
 returns-in_err-park-clause-reply c =

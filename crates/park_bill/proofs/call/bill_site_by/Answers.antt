@@ -5,7 +5,7 @@ use Rattle.park_format.specs.Call.{reply_of}
 use Rattle.park_bill.specs.Reply.{site_outcome}
 use Rattle.park_bill.proofs.Outcomes.{site_in_balance}
 use Rattle.park_bill.proofs.Refusals.{site_answered, site_refused}
-use Rattle.park_bill.proofs.call.bill_site.Goals as goal
+use Rattle.park_bill.proofs.call.bill_site_by.Goals as goal
 
 pub returns-in_err-park-clause-reply : goal.returns-in_err-park-clause-reply
 returns-in_err-park-clause-reply c =
