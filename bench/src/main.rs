@@ -9,7 +9,7 @@
 //!   one codegen unit, no target-cpu). Neither is inlined into the loop that times it.
 //! - Both make the same checks: every file is first put to both, as it is, with bytes changed, cut
 //!   short and too long, and they must leave the same numbers in every call; so must files with all
-//!   numbers, or tangents, at their limits. The lists of the files' numbers are put to both in the
+//!   numbers, or tangents, or what is due, at their limits. The lists of the files' numbers are put to both in the
 //!   same way, also with numbers too large for their fields, and both must make the same files.
 //!   Every refusal must be among the answers. Files of both versions are put to both.
 //! - The plain Rust is safe Rust, written to be fast: one quick test of a line, with the rules by
@@ -100,10 +100,10 @@ fn assert_agree(timed: &[&Files]) {
     agree_lists::assert_alder();
     let at_limits = [(1, 1), (1, 64), (2, 8), (3, 64), (16, 16), (16, 64)]
         .map(|(sites, lines)| Files::of_shape(Random::to_the_limits(SEED + 5), sites, lines));
-    let (most, tangents) = (Files::of_most(), Files::of_tangents());
-    let of_version_1: Vec<_> = at_limits.iter().chain([&most, &tangents]).collect();
+    let (most, tangents, limits) = (Files::of_most(), Files::of_tangents(), Files::of_limits());
+    let of_version_1: Vec<_> = at_limits.iter().chain([&most, &tangents, &limits]).collect();
     let mut of_version_2 = vec![Files::of_most_active(&most)];
-    for (files, generators) in of_version_1.iter().zip([1, 32, 0, 5, 32, 8, 32, 2]) {
+    for (files, generators) in of_version_1.iter().zip([1, 32, 0, 5, 32, 8, 32, 2, 1]) {
         let random = Random::to_the_limits(SEED + 9);
         of_version_2.push(Files::of_version_2(files, random, generators));
     }

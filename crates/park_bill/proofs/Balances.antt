@@ -20,12 +20,12 @@ use Rattle.park_format.proofs.Lists.{every_map}
 use Rattle.park_charge.specs.Flow.{inflow, outflow}
 use Rattle.park_charge.specs.Losses.{settled, cut, settled_balance}
 use Rattle.park_charge.specs.Rounding.{rounded, rounded_upper, rounded_lower}
-use Rattle.park_charge.specs.Charge.{loss_charge}
+use Rattle.park_charge.specs.Charge.{consumption_due, loss_charge}
 use Rattle.park_sums.specs.Flows.{loss_in, loss_out}
 use Rattle.park_sums.specs.Sums.{over_sites, sum_by, EachSite}
-use Rattle.park_bill.specs.Bill.{bill, tangent_of, touching, weighted_at, weighted_sum}
+use Rattle.park_bill.specs.Bill.{bill, site_record, tangent_of, touching, weighted_at, weighted_sum}
 use Rattle.park_sums.specs.Inner.Rows.{when}
-use Rattle.park_bill.specs.Balance.{Measured, MeasuredBetween, coming_in, going_back, network_energy, Balance}
+use Rattle.park_bill.specs.Balance.{AllConsumptionDue, Measured, MeasuredBetween, coming_in, going_back, network_energy, Balance}
 use Rattle.park_sums.proofs.Sums.{sum_by-add, sum_by_cong, sum_by-select}
 
 -- sums over sites 1 to n
@@ -208,10 +208,10 @@ priced losses charges price (suc n) e =
 
 -- a table of bills: its numbers are those of the sites
 pub record Bills (p : Park) (bills : ℕ → ℕ → ℕ) : Type 0 where
+  pub consumption : EachSite (λ (k : ℕ). bills k 1 ≡ (bill p k).consumption) p.header.sites
   pub settled : EachSite (λ (k : ℕ). bills k 3 ≡ (bill p k).settled) p.header.sites
   pub cut : EachSite (λ (k : ℕ). bills k 4 ≡ (bill p k).cut) p.header.sites
   pub charge : EachSite (λ (k : ℕ). bills k 6 ≡ (bill p k).pc) p.header.sites
-  pub reason : EachSite (λ (k : ℕ). bills k 11 ≡ (bill p k).reason) p.header.sites
 
 module _ (p : Park) (kept : Every (KeptLine p.header) p.lines) (measured : Measured p) (bills : ℕ → ℕ → ℕ) (of : Bills p bills) where
   abbrev s : ℕ
@@ -230,10 +230,13 @@ module _ (p : Park) (kept : Every (KeptLine p.header) p.lines) (measured : Measu
       ∙ ap (λ (m : ℕ). network_energy p +ℤ pos m) (over_cong _ _ s none ∙ over_none s)
       ∙ +ℤ_idr (network_energy p)
 
-  due_charge : EachSite (λ (k : ℕ). bills k 11 ≡ 0) s → EachSite (λ (k : ℕ). bills k 6 ≡ loss_charge (bills k 3) p.header.price) s
-  due_charge payable k l h =
+  is_due : AllConsumptionDue p bills → EachSite (λ (k : ℕ). consumption_due (site_record p k).power (bill p k).consumption ≡ true) s
+  is_due due k l h = sym (ap (consumption_due (site_record p k).power) (of.consumption k l h)) ∙ due k l h
+
+  due_charge : AllConsumptionDue p bills → EachSite (λ (k : ℕ). bills k 6 ≡ loss_charge (bills k 3) p.header.price) s
+  due_charge due k l h =
       of.charge k l h
-      ∙ ap (λ (b : Bool). cond b (loss_charge (bill p k).settled p.header.price) 0) (eq-eqb _ 0 (sym (of.reason k l h) ∙ payable k l h))
+      ∙ ap (λ (b : Bool). cond b (loss_charge (bill p k).settled p.header.price) 0) (is_due due k l h)
       ∙ ap (λ (x : ℕ). loss_charge x p.header.price) (sym (of.settled k l h))
 
   pub balanced : Balance p bills
@@ -242,5 +245,5 @@ module _ (p : Park) (kept : Every (KeptLine p.header) p.lines) (measured : Measu
         step5 = λ k l h. (of.settled k l h, of.cut k l h);
         balance = in_balance;
         uncut = (λ e. over_zero _ s (nothing_added (network_energy p) _ (sym e ∙ in_balance)), equal_uncut);
-        charges = λ none payable. priced (λ (k : ℕ). bills k 3) (λ (k : ℕ). bills k 6) p.header.price s (due_charge payable);
+        charges = λ none due. priced (λ (k : ℕ). bills k 3) (λ (k : ℕ). bills k 6) p.header.price s (due_charge due);
       }

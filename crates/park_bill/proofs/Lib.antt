@@ -10,3 +10,4 @@ pub mod Billed
 pub mod Balances
 pub mod Outcomes
 pub mod ByTable
+pub mod ByReason

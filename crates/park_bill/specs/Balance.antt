@@ -1,4 +1,4 @@
--- The loss balance (demand 3; 01, the paragraph after the eleven numbers; 02, R-5, of both versions), for every accepted park whose lines between
+-- The loss balance (demand 3; 01, the paragraph after the eleven numbers; 02, R-5, of both versions, and R-7), for every accepted park whose lines between
 -- two sites all have a meter of reactive consumption. It speaks of what a line carries at its ends, of no version and of no way to
 -- the surcharge.
 -- Assumes nothing.
@@ -8,9 +8,10 @@ use Rattle.park_format.specs.Rules.{IsAccepted, measures_reactive}
 use Rattle.park_format.specs.Accepted.{Every}
 use Rattle.park_format.specs.declared.line.Line.{Line}
 use Rattle.park_charge.specs.Losses.{settled, cut}
+use Rattle.park_charge.specs.Charge.{consumption_due}
 use Rattle.park_sums.specs.Sums.{over_sites, sum_by, EachSite}
 use Rattle.park_sums.specs.Flows.{loss_in, loss_out}
-use Rattle.park_bill.specs.Bill.{bill_numbers, tangent_of, touching, weighted_sum}
+use Rattle.park_bill.specs.Bill.{bill_numbers, site_record, tangent_of, touching, weighted_sum}
 use Rattle.park_bill.specs.Reply.{in_list, in_reply, list_after, site_outcome}
 
 -- the condition: a line between two sites has a meter of reactive consumption
@@ -31,16 +32,27 @@ going_back p =
 abbrev pub network_energy : Park → ℤ
 network_energy p = pos (coming_in p) -ℤ pos (going_back p)
 
--- number j added over the sites, and that it is 0 at each: `bills k j` is number j of site k, 3 settled, 4 the cut, 6 Pc, 11 the reason
+-- number j added over the sites, and that it is 0 at each: `bills k j` is number j of site k, 1 consumption, 3 settled, 4 the cut, 6 Pc
 abbrev pub added : Park → (ℕ → ℕ → ℕ) → ℕ → ℕ
 added p bills j = over_sites (λ (k : ℕ). bills k j) p.header.sites
 
 abbrev pub AllZero : Park → (ℕ → ℕ → ℕ) → ℕ → Type 0
 AllZero p bills j = EachSite (λ (k : ℕ). bills k j ≡ 0) p.header.sites
 
+-- step 7 (02, R-7): the consumption charge of every site is due, by its power and its consumption
+abbrev pub AllConsumptionDue : Park → (ℕ → ℕ → ℕ) → Type 0
+AllConsumptionDue p bills =
+    EachSite (λ (k : ℕ). consumption_due (site_record p k).power (bills k 1) ≡ true) p.header.sites
+
 -- step 5's weighted sum of site k
 abbrev pub sum_at : Park → ℕ → ℤ
 sum_at p k = weighted_sum (touching k p)
+
+-- the charges are within half a kopeck a site of the price of the settled energy, energy × T / 10,000,000
+abbrev pub ChargesWithin : Park → (ℕ → ℕ → ℕ) → Type 0
+ChargesWithin p bills =
+    (2 * (10000000 * added p bills 6) ≤ 2 * (added p bills 3 * p.header.price) + 10000000 * p.header.sites)
+    × (2 * (added p bills 3 * p.header.price) ≤ 2 * (10000000 * added p bills 6) + 10000000 * p.header.sites)
 
 pub record Balance (p : Park) (bills : ℕ → ℕ → ℕ) : Type 0 where
   -- each site's settled losses and cut are those of step 5
@@ -49,10 +61,8 @@ pub record Balance (p : Park) (bills : ℕ → ℕ → ℕ) : Type 0 where
   pub balance : pos (added p bills 3) ≡ network_energy p +ℤ pos (added p bills 4)
   -- the two energies are equal if and only if no site is cut
   pub uncut : (pos (added p bills 3) ≡ network_energy p) ↔ AllZero p bills 4
-  -- no site cut, all payable: charges within half a kopeck a site of energy × T / 10,000,000 (by `uncut`, of either energy)
-  pub charges : AllZero p bills 4 → AllZero p bills 11
-      → (2 * (10000000 * added p bills 6) ≤ 2 * (added p bills 3 * p.header.price) + 10000000 * p.header.sites)
-      × (2 * (added p bills 3 * p.header.price) ≤ 2 * (10000000 * added p bills 6) + 10000000 * p.header.sites)
+  -- if no site is cut and all consumption charges are due, the charges are within half a kopeck a site (by `uncut`, of either energy)
+  pub charges : AllZero p bills 4 → AllConsumptionDue p bills → ChargesWithin p bills
 
 -- what bill_park promises of the list that it leaves
 abbrev pub InBalance : List ℕ → List ℕ → List ℕ → Type 0

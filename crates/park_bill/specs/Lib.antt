@@ -6,3 +6,4 @@ pub mod Former
 pub mod First
 pub mod Inner
 pub mod ByTable
+pub mod ByReason

@@ -1,10 +1,11 @@
 -- Park Alder, byte by byte, and the starred cases (01, "Park Alder, and its neighbours"; tg as 02, R-4, has it), as entries of one list, with
 -- what is printed for Alder, for Alder with WQ 40,000 on line 2 and for one file that is refused, site 2 of Alder with WQ 40,000 on line 2 under
--- the former limit of tg and by the operators' table, two parks in which no meter tells what a site sends on, and four parks that show what the condition of the loss
--- balance is for; and parks of version 2, with and without generators, accepted and refused (02, R-5). `holds` says of each entry whether it is
--- so; `Says` is what it then means. `all_cases` of CaseTest is the proof of `AllCases`.
+-- the former limit of tg and by the operators' table, two parks in which no meter tells what a site sends on, and four parks that show what the
+-- condition of the loss balance is for; parks of version 2, with and without generators, accepted and refused (02, R-5); and sites on both sides of
+-- each limit of what is due, with the former bills of five, and parks that show what the last condition of the balance is for (02, R-7). `holds`
+-- says of each entry whether it is so; `Says` is what it then means. `all_cases` of CaseTest is the proof of `AllCases`.
 -- Assumes nothing.
-use Rattle.std.specs.Prelude.{ℕ, ◌*◌, ◌≤◌, ◌≡◌, Bool, true, false, not, ◌&&◌, ◌||◌, List, [], ◌∷◌, ◌++◌, eqb, nat_eq, length, ℤ, pos, negsuc, ◌+ℤ◌}
+use Rattle.std.specs.Prelude.{ℕ, ◌+◌, ◌*◌, ◌≤◌, ◌≡◌, Bool, true, false, cond, not, ◌&&◌, ◌||◌, List, [], ◌∷◌, ◌++◌, eqb, leb, nat_eq, length, ℤ, pos, negsuc, ◌+ℤ◌}
 use Prim.Native.String.{String}
 use Rattle.std.specs.Cmp.Lexicographic.{pointwise}
 use Rattle.std.specs.Ordering.{int_eq}
@@ -14,17 +15,19 @@ use Rattle.park_format.specs.Rules.{IsAccepted, measures_reactive, refusal}
 use Rattle.park_format.specs.Accepted.{Every}
 use Rattle.park_format.specs.declared.line.Line.{Line}
 use Rattle.park_charge.specs.Flow.{estimated_out, tangent}
-use Rattle.park_charge.specs.Charge.{loss_charge, reason, surcharge}
+use Rattle.park_charge.specs.Charge.{consumption_due, generation_due, loss_charge, reason, surcharge}
+use Rattle.park_charge.specs.Former.{former_reason}
 use Rattle.park_charge.specs.ByTable.{surcharge_by_table}
-use Rattle.park_sums.specs.Sums.{all_of}
-use Rattle.park_bill.specs.Bill.{active_net, bill_numbers, touching, words}
+use Rattle.park_sums.specs.Sums.{all_of, over_sites}
+use Rattle.park_bill.specs.Bill.{active_net, bill, bill_numbers, Nothing, site_record, touching, words}
+use Rattle.park_bill.specs.ByReason.{bill_by_reason, due_at, struck, with_money}
 use Rattle.park_bill.specs.ByTable.{bill_by_table}
 use Rattle.park_bill.specs.Former.{former_bill}
 use Rattle.park_bill.specs.Reply.{bills_of, in_list, in_reply, list_after, site_outcome}
-use Rattle.park_bill.specs.Balance.{added, AllZero, Balance, Measured, network_energy}
+use Rattle.park_bill.specs.Balance.{added, AllConsumptionDue, AllZero, Balance, ChargesWithin, Measured, network_energy}
 use Rattle.park_text.specs.Answer.{answer_to}
 use Rattle.park_text.specs.Ascii.{ascii}
-use Rattle.park_text.specs.Parks.{alder, alder_back, alder_cut, alder_high, alder_refused, alder_second, alder_unmetered, head_second, mixed_second, one_line, own_back, own_none, own_on, own_short, unfed_second}
+use Rattle.park_text.specs.Parks.{alder, alder_back, alder_cut, alder_high, alder_refused, alder_second, alder_unmetered, head_second, limits, limits_second, mixed_second, one_limit, one_line, own_back, own_none, own_on, own_short, unfed_second}
 
 -- number j of site k, as bill_site replies it, and that number added over the sites
 abbrev pub numbers : List ℕ → ℕ → ℕ → ℕ
@@ -42,6 +45,8 @@ pub data Case : Type 0 where
   printed : List ℕ → String → Case
   -- a file, a site, and its numbers with the former limit of tg
   former_case : List ℕ → ℕ → List ℕ → Case
+  -- a file, a site, and its numbers by step 7 as it was, of which its bill is what is due
+  by_reason_case : List ℕ → ℕ → List ℕ → Case
   -- a file, a site, and its numbers with the surcharge by the operators' table
   by_table_case : List ℕ → ℕ → List ℕ → Case
   -- a file and its refusal: number and place
@@ -58,12 +63,30 @@ pub data Case : Type 0 where
   charge_case : ℕ → ℕ → Case
   -- consumption, generation and the reason, at a power of 16
   reason_case : ℕ → ℕ → ℕ → Case
+  -- power, consumption and generation; whether the consumption charge is due, and the charge for generation; the reason
+  due_case : ℕ → ℕ → ℕ → Bool → Bool → ℕ → Case
   -- a file that is accepted; its energy at the network, whether it meets the condition, whether settled losses are in balance, and
   -- whether no site is cut; if it meets the condition, it has the whole balance of replies and list
   balance_case : List ℕ → ℤ → Bool → Bool → Bool → Case
+  -- a file that is accepted, meets the condition of the balance and has no cut; whether all its consumption charges are due, whether all its
+  -- reasons are 0, and whether its charges are within half a kopeck a site, which they are by the balance if the first is so
+  charges_case : List ℕ → Bool → Bool → Bool → Case
+
+-- the bills of the seven sites at the limits of what is due: for generation alone, for consumption alone, for both, for neither, below 16 kW, and
+-- with metered generation for generation alone and for consumption alone
+abbrev pub limit_bills : List ℕ
+limit_bills =
+    999 ∷ 999 ∷ 668331 ∷ 0 ∷ 10000 ∷ 0 ∷ 33450 ∷ 0 ∷ 3345 ∷ 30105 ∷ 0
+    ∷ 1000 ∷ 1000 ∷ 669000 ∷ 0 ∷ 9999 ∷ 33450 ∷ 0 ∷ 18816 ∷ 3345 ∷ 48921 ∷ 0
+    ∷ 1000 ∷ 1000 ∷ 669000 ∷ 0 ∷ 10000 ∷ 33450 ∷ 33450 ∷ 18816 ∷ 6690 ∷ 79026 ∷ 0
+    ∷ 999 ∷ 999 ∷ 668331 ∷ 0 ∷ 9999 ∷ 0 ∷ 0 ∷ 0 ∷ 0 ∷ 0 ∷ 2
+    ∷ 1000 ∷ 1000 ∷ 669000 ∷ 0 ∷ 10000 ∷ 0 ∷ 0 ∷ 0 ∷ 0 ∷ 0 ∷ 1
+    ∷ 0 ∷ 0 ∷ 0 ∷ 0 ∷ 10000 ∷ 0 ∷ 33450 ∷ 0 ∷ 3345 ∷ 30105 ∷ 0
+    ∷ 1000 ∷ 1000 ∷ 669000 ∷ 0 ∷ 9990 ∷ 33450 ∷ 0 ∷ 18816 ∷ 3345 ∷ 48921 ∷ 0
+    ∷ []
 
 -- Alder's bytes, 01's cases (with the two parks and the former bill, a WP0 of 0 with and without WQ0, and tg at each of its limits), three
--- answers, the four parks, and version 2
+-- answers, the four parks, version 2, and what is due
 abbrev pub cases : List Case
 cases =
     file_case alder (80 ∷ 82 ∷ 75 ∷ 1 ∷ 0 ∷ 4 ∷ 2 ∷ 3 ∷ 32 ∷ 161 ∷ 7 ∷ 0 ∷ 200 ∷ 0 ∷ 144 ∷ 1 ∷ 0 ∷ 0 ∷ 1 ∷ 50 ∷ 0 ∷ 0 ∷ 0 ∷ 0 ∷ 0 ∷ 100 ∷ 0 ∷ 0 ∷ 0 ∷ 0 ∷ 0 ∷ 0 ∷ 0 ∷ 0 ∷ 100 ∷ 0 ∷ 0 ∷ 1 ∷ 1 ∷ 157 ∷ 2 ∷ 64 ∷ 156 ∷ 0 ∷ 0 ∷ 48 ∷ 117 ∷ 0 ∷ 0 ∷ 0 ∷ 0 ∷ 0 ∷ 0 ∷ 0 ∷ 0 ∷ 0 ∷ 0 ∷ 1 ∷ 2 ∷ 1 ∷ 188 ∷ 2 ∷ 16 ∷ 39 ∷ 0 ∷ 0 ∷ 160 ∷ 15 ∷ 0 ∷ 0 ∷ 0 ∷ 0 ∷ 0 ∷ 0 ∷ 0 ∷ 0 ∷ 0 ∷ 0 ∷ 0 ∷ 2 ∷ 0 ∷ 157 ∷ 2 ∷ 136 ∷ 19 ∷ 0 ∷ 0 ∷ 0 ∷ 0 ∷ 0 ∷ 0 ∷ 0 ∷ 0 ∷ 0 ∷ 0 ∷ 0 ∷ 0 ∷ 0 ∷ 0 ∷ [])
@@ -152,6 +175,38 @@ cases =
     ∷ refused_case (unfed_second []) 19 2
     ∷ refused_case (unfed_second ((2 ∷ 0 ∷ []) ∷ [])) 26 1
     ∷ refused_case (unfed_second ((1 ∷ 10000001 ∷ []) ∷ [])) 27 1
+    -- what is due, on both sides of each limit, in both versions and in months before April, in April and after it, with the former bills of five
+    -- sites: one charge is due, the other, both, and none for either reason
+    ∷ due_case 16 999 9999 false false 2
+    ∷ due_case 16 999 10000 false true 0
+    ∷ due_case 16 1000 9999 true false 0
+    ∷ due_case 16 1000 10000 true true 0
+    ∷ due_case 16 0 10000 false true 0
+    ∷ due_case 16 1000 0 true false 0
+    ∷ due_case 15 1000 10000 false false 1
+    ∷ due_case 15 0 0 false false 1
+    ∷ whole_bill (limits 3) limit_bills 4012662 4012662
+    ∷ whole_bill (limits 4) limit_bills 4012662 4012662
+    ∷ whole_bill (limits_second 1) limit_bills 4012662 4012662
+    ∷ whole_bill (limits_second 12) limit_bills 4012662 4012662
+    ∷ by_reason_case (limits 3) 1 (999 ∷ 999 ∷ 668331 ∷ 0 ∷ 10000 ∷ 33417 ∷ 33450 ∷ 18747 ∷ 6687 ∷ 78927 ∷ 0 ∷ [])
+    ∷ by_reason_case (limits 3) 2 (1000 ∷ 1000 ∷ 669000 ∷ 0 ∷ 9999 ∷ 33450 ∷ 33447 ∷ 18816 ∷ 6690 ∷ 79023 ∷ 0 ∷ [])
+    ∷ by_reason_case (limits 3) 3 (1000 ∷ 1000 ∷ 669000 ∷ 0 ∷ 10000 ∷ 33450 ∷ 33450 ∷ 18816 ∷ 6690 ∷ 79026 ∷ 0 ∷ [])
+    ∷ by_reason_case (limits 3) 4 (999 ∷ 999 ∷ 668331 ∷ 0 ∷ 9999 ∷ 0 ∷ 0 ∷ 0 ∷ 0 ∷ 0 ∷ 2 ∷ [])
+    ∷ by_reason_case (limits 3) 5 (1000 ∷ 1000 ∷ 669000 ∷ 0 ∷ 10000 ∷ 0 ∷ 0 ∷ 0 ∷ 0 ∷ 0 ∷ 1 ∷ [])
+    -- without a cut: where Pc is not due, the charges need not be within half a kopeck a site, though every reason is 0; in the first park they are
+    -- not, in the second, where consumption is 0, they are, in the third it is just half a kopeck, and in the fourth 11 twentieths
+    ∷ charges_case (one_limit 16 1000 0 669 999) false true false
+    ∷ charges_case (one_limit 16 1000 0 669 0) false true true
+    ∷ charges_case (one_limit 16 1000 0 1 10) false true true
+    ∷ charges_case (one_limit 16 1000 0 1 11) false true false
+    ∷ charges_case (one_limit 16 0 3333 669 1000) true true true
+    ∷ charges_case (one_limit 16 1000 0 669 1000) true true true
+    ∷ charges_case alder true true true
+    ∷ charges_case alder_second true true true
+    ∷ charges_case (one_limit 15 1000 0 669 1000) false false false
+    ∷ charges_case (one_limit 16 0 3333 669 0) false false true
+    ∷ charges_case (limits 4) false false false
     ∷ []
 
 abbrev pub same : List ℕ → List ℕ → Bool
@@ -176,6 +231,17 @@ agree false b = not b
 abbrev pub measured_line : Line → Bool
 measured_line l = eqb l.from 0 || (eqb l.to 0 || measures_reactive l.meters)
 
+-- 0 if the consumption charge of site k is due, else 1
+abbrev pub undue_at : List ℕ → ℕ → ℕ
+undue_at file k = cond (consumption_due (site_record (park_of file) k).power (numbers file k 1)) 0 1
+
+-- the charges of Pc are within half a kopeck a site
+abbrev pub charges_within : List ℕ → Bool
+charges_within file =
+    let h = (park_of file).header in
+    leb (2 * (10000000 * total file 6)) (2 * (total file 3 * h.price) + 10000000 * h.sites)
+    && leb (2 * (total file 3 * h.price)) (2 * (10000000 * total file 6) + 10000000 * h.sites)
+
 unfoldable pub holds : Case → Bool
 holds (whole_bill file list settled network) =
     accepts (refusal file)
@@ -184,6 +250,7 @@ holds (whole_bill file list settled network) =
 holds (file_case file bytes) = same file bytes
 holds (printed file text) = same (answer_to file) (ascii text)
 holds (former_case file k list) = same (words (former_bill (park_of file) k)) list
+holds (by_reason_case file k list) = same (words (bill_by_reason (park_of file) k)) list
 holds (by_table_case file k list) = same (words (bill_by_table (park_of file) k)) list
 holds (refused_case file number place) = refuses number place (refusal file)
 holds (active_case file k wp) = accepts (refusal file) && eqb (active_net (touching k (park_of file))) wp
@@ -192,12 +259,20 @@ holds (estimate_case tg wp out) = eqb (estimated_out tg wp) out
 holds (surcharge_case tg pc p2) = eqb (surcharge pc tg) p2 && eqb (surcharge_by_table pc tg) p2
 holds (charge_case product pc) = eqb (loss_charge product 1) pc
 holds (reason_case c g r) = eqb (reason 16 c g) r
+holds (due_case power c g pc pg r) =
+    agree pc (consumption_due power c) && (agree pg (generation_due power g) && eqb (reason power c g) r)
 holds (balance_case file energy measured balanced uncut) =
     accepts (refusal file)
     && (equal (network_energy (park_of file)) energy
     && (agree measured (all_of measured_line (park_of file).lines)
     && (agree balanced (equal (pos (total file 3)) (network_energy (park_of file) +ℤ pos (total file 4)))
     && agree uncut (eqb (total file 4) 0))))
+holds (charges_case file due without_reason within) =
+    accepts (refusal file)
+    && (all_of measured_line (park_of file).lines
+    && (eqb (total file 4) 0
+    && (agree due (eqb (over_sites (undue_at file) (park_of file).header.sites) 0)
+    && (agree without_reason (eqb (total file 11) 0) && agree within (charges_within file)))))
 
 -- that something is so, or that it is not
 abbrev pub Whether : Bool → Type 0 → Type 0
@@ -213,6 +288,14 @@ Says (whole_bill file list settled network) =
 Says (file_case file bytes) = file ≡ bytes
 Says (printed file text) = answer_to file ≡ ascii text
 Says (former_case file k list) = words (former_bill (park_of file) k) ≡ list
+Says (by_reason_case file k list) =
+    let p = park_of file in
+    let former = bill_by_reason p k in
+    (words former ≡ list)
+    × ((bill p k ≡ with_money (bill p k) former)
+    × ((bill p k ≡ struck (due_at p k) (site_record p k).discount former)
+    × (((due_at p k).consumption ≡ true → (due_at p k).generation ≡ true → bill p k ≡ former)
+    × (((bill p k).reason ≡ 0 → ⊥) → Nothing (bill p k)))))
 Says (by_table_case file k list) = words (bill_by_table (park_of file) k) ≡ list
 Says (refused_case file number place) = refusal file ≡ some (number, place)
 Says (active_case file k wp) = IsAccepted file × (active_net (touching k (park_of file)) ≡ wp)
@@ -221,6 +304,9 @@ Says (estimate_case tg wp out) = estimated_out tg wp ≡ out
 Says (surcharge_case tg pc p2) = (surcharge pc tg ≡ p2) × (surcharge_by_table pc tg ≡ p2)
 Says (charge_case product pc) = loss_charge product 1 ≡ pc
 Says (reason_case c g r) = reason 16 c g ≡ r
+Says (due_case power c g pc pg r) =
+    (consumption_due power c ≡ pc)
+    × ((generation_due power g ≡ pg) × ((reason power c g ≡ r) × (reason power c g ≡ former_reason power c g)))
 Says (balance_case file energy measured balanced uncut) =
     IsAccepted file
     × ((network_energy (park_of file) ≡ energy)
@@ -230,6 +316,14 @@ Says (balance_case file energy measured balanced uncut) =
     × (Measured (park_of file)
     → Balance (park_of file) (numbers file)
     × ((before : List ℕ) → bill_numbers * (park_of file).header.sites ≤ length before → Balance (park_of file) (in_list (list_after file before))))))))
+Says (charges_case file due without_reason within) =
+    IsAccepted file
+    × (Measured (park_of file)
+    × (AllZero (park_of file) (numbers file) 4
+    × (Whether due (AllConsumptionDue (park_of file) (numbers file))
+    × (Whether without_reason (AllZero (park_of file) (numbers file) 11)
+    × (Whether within (ChargesWithin (park_of file) (numbers file))
+    × (AllConsumptionDue (park_of file) (numbers file) → ChargesWithin (park_of file) (numbers file)))))))
 
 abbrev pub AllCases : Type 0
 AllCases = Every Says cases

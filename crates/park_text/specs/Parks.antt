@@ -1,7 +1,7 @@
--- The parks of the cases, as files: park Alder (01, "Park Alder, and its neighbours") and what differs from it in a line or two, and parks of
--- version 2 (02, R-5).
+-- The parks of the cases, as files: park Alder (01, "Park Alder, and its neighbours") and what differs from it in a line or two, parks of
+-- version 2 (02, R-5), and parks at the limits of what is due (02, R-7).
 -- Assumes nothing.
-use Rattle.std.specs.Prelude.{ℕ, List, [], ◌∷◌, length}
+use Rattle.std.specs.Prelude.{ℕ, List, [], ◌∷◌, ◌++◌, length}
 use Rattle.park_format.specs.Made.{file_from}
 use Rattle.park_format.specs.Rules.{park_mark}
 
@@ -111,3 +111,35 @@ own_short =
     ((400 ∷ 1 ∷ 50 ∷ 0 ∷ 0 ∷ []) ∷ (100 ∷ 0 ∷ 0 ∷ 0 ∷ 0 ∷ []) ∷ [])
     ((0 ∷ 1 ∷ 9 ∷ 669 ∷ 1000 ∷ 30000 ∷ 0 ∷ 0 ∷ 5000 ∷ []) ∷ (1 ∷ 2 ∷ 9 ∷ 700 ∷ 2000 ∷ 4000 ∷ 0 ∷ 0 ∷ 3000 ∷ []) ∷ (1 ∷ 2 ∷ 8 ∷ 700 ∷ 600 ∷ 0 ∷ 0 ∷ 0 ∷ 1000 ∷ []) ∷ [])
     ((1 ∷ 2500 ∷ []) ∷ [])
+
+-- the line of one of the sites at the limits of what is due, with a given site, mark, WQ and WG, and what a line of its version has besides
+abbrev pub limit_line : List ℕ → ℕ → ℕ → ℕ → ℕ → List ℕ
+limit_line more site mark reactive generated = (0 ∷ site ∷ mark ∷ 669 ∷ 1000 ∷ reactive ∷ generated ∷ 0 ∷ []) ++ more
+
+-- Seven sites at the limits of what is due, each with its line, in a given version and month, and what a header and a line of that version have
+-- besides. At the first five generation is computed: 10,000 tenths of a kVArh by a Q of 1,000, and 9,999 by a P of 3,333. Of consumption and
+-- generation there is too little of the first, of the second, of none, and of both; site 5 has enough of both, but a power below 16. At the last
+-- two it is metered: site 6 generates 1,000 kVArh and consumes nothing, site 7 consumes 1,000 and generates 999.
+abbrev pub limits_with : ℕ → ℕ → List ℕ → List ℕ
+limits_with version month more =
+    file_from
+    (park_mark ∷ version ∷ month ∷ 7 ∷ 7 ∷ 500000 ∷ 1 ∷ more)
+    ((16 ∷ 1 ∷ 1000 ∷ 0 ∷ 100 ∷ []) ∷ (16 ∷ 1 ∷ 0 ∷ 3333 ∷ 100 ∷ []) ∷ (16 ∷ 1 ∷ 1000 ∷ 0 ∷ 100 ∷ []) ∷ (16 ∷ 1 ∷ 0 ∷ 3333 ∷ 100 ∷ []) ∷ (15 ∷ 1 ∷ 1000 ∷ 0 ∷ 100 ∷ []) ∷ (16 ∷ 1 ∷ 0 ∷ 0 ∷ 100 ∷ []) ∷ (16 ∷ 1 ∷ 0 ∷ 0 ∷ 100 ∷ []) ∷ [])
+    (limit_line more 1 1 999 0 ∷ limit_line more 2 1 1000 0 ∷ limit_line more 3 1 1000 0 ∷ limit_line more 4 1 999 0 ∷ limit_line more 5 1 1000 0 ∷ limit_line more 6 3 0 1000 ∷ limit_line more 7 3 1000 999 ∷ [])
+    []
+
+-- in version 1, and in version 2
+abbrev pub limits : ℕ → List ℕ
+limits month = limits_with 1 month []
+
+abbrev pub limits_second : ℕ → List ℕ
+limits_second month = limits_with 2 month (0 ∷ [])
+
+-- one such site, with a given power, Q, P, D and WQ
+abbrev pub one_limit : ℕ → ℕ → ℕ → ℕ → ℕ → List ℕ
+one_limit power compensation motors eerp reactive =
+    file_from
+    (park_mark ∷ 1 ∷ 4 ∷ 1 ∷ 1 ∷ 500000 ∷ 1 ∷ [])
+    ((power ∷ 1 ∷ compensation ∷ motors ∷ 100 ∷ []) ∷ [])
+    ((0 ∷ 1 ∷ 1 ∷ eerp ∷ 1000 ∷ reactive ∷ 0 ∷ 0 ∷ []) ∷ [])
+    []

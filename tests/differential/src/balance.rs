@@ -4,10 +4,12 @@
 //! It is asked for when every line between two sites measures reactive consumption: any other
 //! such line has two flows, one for each end. Then the settled losses of all sites less their
 //! cuts are the energy at the network, what comes in less what goes back. If besides no
-//! site is cut at zero and all are payable, the printed consumption charges differ from the exact
-//! price of that energy by half a kopeck per site at most.
+//! site is cut at zero and every site's consumption charge is due (02, R-7), the printed consumption
+//! charges differ from the exact price of that energy by half a kopeck per site at most.
 
-use crate::park::{Line, Park};
+use crate::due::due;
+use crate::expect::{CONSUMPTION, CUT, GENERATION, PC, SETTLED, TANGENT};
+use crate::park::{Line, Park, Site};
 use crate::steps::{input_flow, transit_flow, Bill};
 
 /// What the balance of a park came to.
@@ -18,9 +20,12 @@ pub struct Balance {
     /// Losses coming in from the network less those going back.
     pub network: i128,
     pub some_cut: bool,
-    /// The difference of charges and price in ten-millionths of a kopeck, and the most it may be;
-    /// none if a site is cut or not payable.
-    pub charge_difference: Option<(i128, i128)>,
+    /// Whether no site is cut and every consumption charge is due.
+    pub charges_asked: bool,
+    /// The difference of charges and price in ten-millionths of a kopeck, and the most that it may
+    /// be if it is asked for.
+    pub difference: i128,
+    pub most: i128,
 }
 
 /// The balance of a park with these bills; none if it does not meet the condition.
@@ -31,16 +36,21 @@ pub fn balance(park: &Park, bills: &[Bill]) -> Option<Balance> {
     }
     let total = |field: usize| -> i128 { bills.iter().map(|bill| bill[field] as i128).sum() };
     let network: i128 = park.lines.iter().map(|line| network_losses(line, bills)).sum();
-    let some_cut = bills.iter().any(|bill| bill[3] != 0);
-    let all_payable = bills.iter().all(|bill| bill[10] == 0);
-    let difference = (total(5) * 10_000_000 - network * park.price as i128).abs();
-    let most = 5_000_000 * bills.len() as i128;
+    let some_cut = bills.iter().any(|bill| bill[CUT] != 0);
+    let all_due = park.sites.iter().zip(bills).all(|(site, bill)| consumption_due(site, bill));
     Some(Balance {
-        settled: total(2) - total(3),
+        settled: total(SETTLED) - total(CUT),
         network,
         some_cut,
-        charge_difference: (!some_cut && all_payable).then_some((difference, most)),
+        charges_asked: !some_cut && all_due,
+        difference: (total(PC) * 10_000_000 - network * park.price as i128).abs(),
+        most: 5_000_000 * bills.len() as i128,
     })
+}
+
+/// Whether Pc of a site with this bill is due.
+fn consumption_due(site: &Site, bill: &Bill) -> bool {
+    due(site.power, bill[CONSUMPTION] as i128, bill[GENERATION] as i128).consumption
 }
 
 /// A line's share of the energy at the network: D times its flow of step 1 if it comes from
@@ -50,7 +60,7 @@ fn network_losses(line: &Line, bills: &[Bill]) -> i128 {
     if line.from == 0 {
         eerp * input_flow(line)
     } else if line.to == 0 {
-        -eerp * transit_flow(line, bills[line.from as usize - 1][1] as i128)
+        -eerp * transit_flow(line, bills[line.from as usize - 1][TANGENT] as i128)
     } else {
         0
     }
@@ -58,7 +68,6 @@ fn network_losses(line: &Line, bills: &[Bill]) -> i128 {
 
 impl Balance {
     pub fn holds(&self) -> bool {
-        let within = |(difference, most)| difference <= most;
-        self.settled == self.network && self.charge_difference.is_none_or(within)
+        self.settled == self.network && (!self.charges_asked || self.difference <= self.most)
     }
 }

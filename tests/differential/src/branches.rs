@@ -1,7 +1,8 @@
 //! The branches of 01's steps, of its demand 3, of a park's shape, of its limits and of making a
 //! file (02, R-1) that a run must reach; the ends of lines (02, R-2) that it must meet in files and
 //! in lists; and the high tangents (02, R-4) that its generated files and lists must meet; each with
-//! its name in the coverage. Those of generators (02, R-5) are in generator_branches.rs.
+//! its name in the coverage. Those of generators (02, R-5) are in generator_branches.rs, those of what
+//! is due (02, R-7) in due_branches.rs.
 
 macro_rules! branches {
     ($kind:ident, $names:ident: $($branch:ident $name:literal,)*) => {
@@ -44,15 +45,15 @@ branches! {
     TransitLeftOut "step 6: transit without generation meter left out",
     Computed "step 6: computed",
     ComputedDespiteMeters "step 6: computed, though some input measures",
-    ReasonNone "step 7: reason 0",
-    ReasonNoneByGeneration "step 7: reason 0 by generation only",
+    DueBoth "step 7: reason 0, Pc and Pg due",
+    DueConsumption "step 7: reason 0, Pc alone due",
+    DueGeneration "step 7: reason 0, Pg alone due",
     ReasonPower "step 7: reason 1",
     ReasonPowerBeforeTwo "step 7: reason 1 where 2 holds too",
     ReasonLow "step 7: reason 2",
     ChargeHalf "step 8: half",
     GenerationMetered "step 9: Pg metered",
     GenerationMeteredCut "step 9: Pg metered, cut",
-    GenerationCutOnly "step 9: generation cut, Pg not",
     GenerationMeteredHalf "step 9: Pg metered, half",
     GenerationComputed "step 9: Pg computed",
     GenerationComputedHalf "step 9: Pg computed, half",
@@ -88,8 +89,8 @@ branches! {
     LimitHoursLeast "limit: t 0",
     LimitHoursMost "limit: t the month's most",
     LimitPowerLeast "limit: power 1",
-    LimitPowerUnpayable "limit: power 15",
-    LimitPowerPayable "limit: power 16",
+    LimitPowerLow "limit: power 15",
+    LimitPowerEnough "limit: power 16",
     LimitPowerMost "limit: power 1,000,000",
     LimitCompensation "limit: Q 20,000",
     LimitMotors "limit: P 20,000",

@@ -8,6 +8,7 @@ use crate::calculator::{self, Bill, Refusal};
 use crate::coverage::Coverage;
 use crate::failures::{Case, Failures};
 use crate::former;
+use crate::former_due;
 use crate::former_tangents;
 use crate::park::Park;
 use crate::product::{Product, Reply, WAYS};
@@ -37,7 +38,9 @@ pub struct Accepted {
     pub park: Park,
     pub bills: Vec<Bill>,
     /// The bills of before R-4.
-    pub former_bills: Vec<Bill>,
+    pub before_tangents: Vec<Bill>,
+    /// The bills of before R-7.
+    pub before_due: Vec<Bill>,
 }
 
 pub fn reply_to<T>(answer: &Result<T, Refusal>) -> Reply {
@@ -129,8 +132,9 @@ impl<'p> Tester<'p> {
             self.coverage.site(&park, &working);
             bills.push(working.bill());
         }
-        let former_bills = former_tangents::bills(&park);
-        Ok(Accepted { park, bills, former_bills })
+        let before_tangents = former_tangents::bills(&park);
+        let before_due = former_due::bills(&park);
+        Ok(Accepted { park, bills, before_tangents, before_due })
     }
 
     fn compare_check(&mut self, file: &[u8], expected: &Result<Accepted, Refusal>) {

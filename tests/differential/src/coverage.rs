@@ -1,19 +1,22 @@
 //! How often each refusal of a file and each branch of 01's steps was reached; shape_coverage.rs
 //! counts for shapes and limits, list_coverage.rs for the lists of 02, ends_coverage.rs for the ends
-//! of lines, marks_coverage.rs for their marks, tangents_coverage.rs for high tangents, and
-//! generators_coverage.rs for generators. A run in which one was never reached has shown too little,
-//! and fails.
+//! of lines, marks_coverage.rs for their marks, tangents_coverage.rs for high tangents,
+//! generators_coverage.rs for generators, and due_coverage.rs for what is due. A run in which one was
+//! never reached has shown too little, and fails.
 
 use crate::balance::Balance;
 use crate::branches::{Branch, NAMES};
+use crate::due::Due;
+use crate::due_coverage::DueCounts;
 use crate::ends_coverage::EndsCoverage;
 use crate::generators_coverage::GeneratorsCoverage;
+use crate::kinds_coverage::ByKind;
 use crate::list_coverage::ListCoverage;
 use crate::marks_coverage::MarksCoverage;
 use crate::park::{Line, Park};
 use crate::rules::accepted_park;
 use crate::steps::{excess, half, Consumption, Generation, Source, Working, MOST_TANGENT};
-use crate::tangents_coverage::TangentsCoverage;
+use crate::tangents_coverage::TangentCounts;
 use crate::touching::Lines;
 
 /// The refusals that a file can meet, in the order of the table; 0 stands for an accepted one.
@@ -32,9 +35,11 @@ pub struct Coverage {
     /// Marks in generated files and lists.
     pub marks: MarksCoverage,
     /// High tangents in generated files and lists.
-    pub tangents: TangentsCoverage,
+    pub tangents: ByKind<TangentCounts>,
     /// Generators in generated files.
     generators: GeneratorsCoverage,
+    /// What is due in generated files and lists.
+    pub due: ByKind<DueCounts>,
 }
 
 impl Coverage {
@@ -45,8 +50,9 @@ impl Coverage {
             ends: EndsCoverage::default(),
             lists: ListCoverage::default(),
             marks: MarksCoverage::new(),
-            tangents: TangentsCoverage::default(),
+            tangents: ByKind::default(),
             generators: GeneratorsCoverage::default(),
+            due: ByKind::default(),
         }
     }
 
@@ -65,6 +71,7 @@ impl Coverage {
         self.marks.file(file, &answer);
         self.tangents.file(&answer);
         self.generators.file(file, &answer);
+        self.due.file(&answer);
     }
 
     pub fn site(&mut self, park: &Park, work: &Working) {
@@ -72,10 +79,13 @@ impl Coverage {
         self.flows(&work.lines, &work.consumption);
         self.generation(&work.lines, &work.generation);
         self.reason(work);
-        if work.reason == 0 {
+        if work.due.generation {
             self.generation_charge(work, park.price as i128);
-            self.other_charges(work, park.price as i128);
         }
+        if work.due.consumption {
+            self.consumption_charge(work, park.price as i128);
+        }
+        self.discount(work);
     }
 
     fn tangent(&mut self, used: &Consumption) {
@@ -135,15 +145,16 @@ impl Coverage {
     fn reason(&mut self, work: &Working) {
         let (little_used, little_made) =
             (work.consumption.energy < 1_000, work.generation.energy < 10_000);
-        let (payable, weak) = (work.reason == 0, work.reason == 1);
-        self.count(Branch::ReasonNone, payable);
-        self.count(Branch::ReasonNoneByGeneration, payable && little_used);
-        self.count(Branch::ReasonPower, weak);
-        self.count(Branch::ReasonPowerBeforeTwo, weak && little_used && little_made);
-        self.count(Branch::ReasonLow, work.reason == 2);
+        let Due { consumption, generation, reason } = work.due;
+        self.count(Branch::DueBoth, consumption && generation);
+        self.count(Branch::DueConsumption, consumption && !generation);
+        self.count(Branch::DueGeneration, generation && !consumption);
+        self.count(Branch::ReasonPower, reason == 1);
+        self.count(Branch::ReasonPowerBeforeTwo, reason == 1 && little_used && little_made);
+        self.count(Branch::ReasonLow, reason == 2);
     }
 
-    /// Step 9.
+    /// Step 9, where Pg is due.
     fn generation_charge(&mut self, work: &Working, price: i128) {
         let made = &work.generation;
         let charged = work.charges.generation > 0;
@@ -151,7 +162,6 @@ impl Coverage {
             let half = half(made.losses.max(0) * price, 10_000_000);
             self.count(Branch::GenerationMetered, charged);
             self.count(Branch::GenerationMeteredCut, made.losses < 0);
-            self.count(Branch::GenerationCutOnly, made.energy < 0 && made.losses > 0);
             self.count(Branch::GenerationMeteredHalf, half);
         }
         if made.source == Source::Computed {
@@ -164,21 +174,26 @@ impl Coverage {
         }
     }
 
-    /// Steps 8, 10 and 11.
-    fn other_charges(&mut self, work: &Working, price: i128) {
+    /// Steps 8 and 10, where Pc is due.
+    fn consumption_charge(&mut self, work: &Working, price: i128) {
         let money = &work.charges;
         let charged = money.consumption > 0;
         let excess = excess(work.consumption.tangent);
-        let discount = work.site.discount as i128;
         let surcharge = money.consumption * excess * excess;
-        let discounted = (money.consumption + money.generation) * discount;
         self.count(Branch::ChargeHalf, half(work.consumption.losses.max(0) * price, 10_000_000));
         self.count(Branch::SurchargeNone, excess == 0 && charged);
         self.count(Branch::Surcharge, money.surcharge > 0);
         self.count(Branch::SurchargeHalf, excess > 0 && half(surcharge, 1_000_000));
-        self.count(Branch::DiscountNone, discount == 0 && charged);
+    }
+
+    /// Step 11.
+    fn discount(&mut self, work: &Working) {
+        let money = &work.charges;
+        let charged = money.consumption + money.generation;
+        let discount = work.site.discount as i128;
+        self.count(Branch::DiscountNone, discount == 0 && charged > 0);
         self.count(Branch::Discount, money.discount > 0);
-        self.count(Branch::DiscountHalf, half(discounted, 1_000));
+        self.count(Branch::DiscountHalf, half(charged * discount, 1_000));
     }
 
     pub fn balance(&mut self, balance: Option<Balance>) {
@@ -187,10 +202,9 @@ impl Coverage {
         self.count(Branch::BalanceUncut, !balance.some_cut);
         self.count(Branch::BalanceCut, balance.some_cut);
         self.count(Branch::BalanceNegative, balance.network < 0);
-        if let Some((difference, most)) = balance.charge_difference {
-            self.count(Branch::BalanceCharge, true);
-            self.count(Branch::BalanceChargeExact, difference == most);
-        }
+        let exact = balance.difference == balance.most;
+        self.count(Branch::BalanceCharge, balance.charges_asked);
+        self.count(Branch::BalanceChargeExact, balance.charges_asked && exact);
     }
 
     /// Prints every count, and returns the names of those that are 0.
@@ -202,7 +216,7 @@ impl Coverage {
         let branches = NAMES.iter().map(|name| name.to_string()).zip(self.branches.iter().copied());
         let mut missing = Vec::new();
         let lines = self.ends.counts("file").chain(self.lists.counts()).chain(self.marks.counts());
-        let later = self.tangents.counts().chain(self.generators.counts());
+        let later = self.tangents.counts().chain(self.generators.counts()).chain(self.due.counts());
         for (name, count) in refusals.chain(branches).chain(lines).chain(later) {
             println!("{count:>10}  {name}");
             if count == 0 {

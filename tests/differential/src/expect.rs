@@ -1,6 +1,6 @@
 //! Expected answers written by hand, held against the calculator as well as against the product.
 
-use crate::calculator::{bill_park, bill_site, check, printed, Refusal};
+use crate::calculator::{bill_park, bill_site, check, printed, Bill, Refusal};
 use crate::compare::Tester;
 use crate::park::Park;
 use crate::product::{Reply, UNWRITTEN, WAYS};
@@ -49,6 +49,12 @@ pub fn expect_numbers(
     }
     tester.file(name, &file);
     tester.print(name, &file);
+}
+
+/// Holds the whole bill of a park's first site against both; then everything about the file.
+pub fn expect_bill(tester: &mut Tester, name: &str, park: &Park, bill: &Bill) {
+    let numbers: Vec<(usize, u64)> = bill.iter().copied().enumerate().collect();
+    expect_numbers(tester, name, park, 1, &numbers);
 }
 
 /// Holds what is printed for a park, and every number in it, against both; then everything about the

@@ -1,5 +1,5 @@
-//! The bills of before R-5 (02), by 01's own park: the version 1 of a park of version 2. Every site
-//! without a generator must be billed as then.
+//! The bills of before R-5 (02), by 01's own park: the version 1 of a park of version 2, with the
+//! steps of now. Every site without a generator must be billed as then.
 
 use crate::compare::Tester;
 use crate::layout::Version;

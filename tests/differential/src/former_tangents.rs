@@ -1,13 +1,13 @@
 //! The bills of before R-4 (02), by 01's own steps: step 2 limits tg to 2,000, and step 10 has no limit;
-//! WP0 is that of now.
+//! WP0 and step 7 are those of now.
 //! Every site must be billed as then, but that a tg of 2,000 may stand for a larger one.
 
 use crate::compare::Tester;
 use crate::park::Park;
 use crate::product::Way;
-use crate::steps::{round, work_out_by, Bill, TangentSteps};
+use crate::steps::{round, work_out_by, Bill, ChangedSteps, STEPS};
 
-const TANGENT_STEPS: TangentSteps = TangentSteps { tangent, surcharge };
+const TANGENT_STEPS: ChangedSteps = ChangedSteps { tangent, surcharge, ..STEPS };
 
 /// The former step 2.
 fn tangent(reactive: i128, active: i128) -> i128 {

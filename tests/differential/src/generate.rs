@@ -1,7 +1,9 @@
 //! Random parks of version 1 that the table of 01 accepts, of all shapes, with values on and near
 //! every limit and with small ones, so that rounding halves, reasons 1 and 2 and high tangents
-//! happen. Those of version 2 are in generate_generators.rs.
+//! happen; some are brought near the limits of step 7 by generate_due.rs. Those of version 2 are in
+//! generate_generators.rs.
 
+use crate::generate_due::aim_at_limits;
 use crate::layout::Version;
 use crate::park::{Line, Park, Site, MONTH_HOURS};
 use crate::park::{GENERATED_METER, NIGHT_METER, REACTIVE_METER};
@@ -62,6 +64,9 @@ pub fn random_park(random: &mut Random) -> Park {
         make_flows_sensible(random, &mut park);
     }
     clear_unmetered(&mut park.lines);
+    if random.chance(25) {
+        aim_at_limits(random, &mut park);
+    }
     park
 }
 

@@ -34,6 +34,8 @@ branches! {
     TangentHigher "step 2: tg higher than with WP0 of 01",
     Estimated "step 3: transit estimated otherwise than with WP0 of 01",
     MeteredAtNight "step 6: metered WN, mark 8 on a line",
+    DueConsumption "step 7: Pc alone due",
+    DueGeneration "step 7: Pg alone due",
     Surcharge "step 10: P2 other than with WP0 of 01",
     OtherSite "a site without a generator, flag 0, tg as before",
     OtherFlaggedSite "a site without a generator, flag 1, tg as before",

@@ -117,6 +117,8 @@ impl GeneratorsCoverage {
         self.count(Generators::Estimated, work.lines.transits.iter().any(flow));
         let metered = lines.any(|line| line.measures_active_generated());
         self.count(Generators::MeteredAtNight, at_night && metered);
+        self.count(Generators::DueConsumption, work.due.consumption && !work.due.generation);
+        self.count(Generators::DueGeneration, work.due.generation && !work.due.consumption);
         self.count(Generators::Surcharge, work.charges.surcharge != former.charges.surcharge);
     }
 

@@ -24,6 +24,7 @@ pub fn run(tester: &mut Tester, seed: u64, lists: u64, sample: u64) {
         for numbers in [&numbers, &damaged] {
             tester.coverage.marks.list(numbers);
             tester.coverage.tangents.list(numbers);
+            tester.coverage.due.list(numbers);
         }
     }
 }

@@ -1,5 +1,5 @@
 //! The differential test program of the park bill: a calculator written from papers 01 and 02 (R-1
-//! to R-6) alone, held against the product's six calls and its program parkbill. Every file is
+//! to R-7) alone, held against the product's six calls and its program parkbill. Every file is
 //! billed by both ways to the surcharge; the calculator works it out by the formula.
 //!
 //! - `park_tests` runs the named cases, the example files, the refusals, the sweeps and the generated
@@ -23,15 +23,21 @@ mod calculator;
 mod compare;
 mod coverage;
 mod damage;
+mod due;
+mod due_branches;
+mod due_coverage;
+mod due_sweeps;
 mod ends_coverage;
 mod examples;
 mod expect;
 mod failures;
 mod fields;
 mod former;
+mod former_due;
 mod former_generators;
 mod former_tangents;
 mod generate;
+mod generate_due;
 mod generate_generators;
 mod generated_run;
 mod generator_branches;
@@ -40,6 +46,7 @@ mod generator_damage;
 mod generator_parks;
 mod generator_sweeps;
 mod generators_coverage;
+mod kinds_coverage;
 mod layout;
 mod list;
 mod list_breaches;
@@ -54,6 +61,7 @@ mod mistakes;
 mod mock;
 mod mock_active;
 mod mock_calls;
+mod mock_due;
 mod mock_encode;
 mod mock_ends;
 mod mock_generators;
@@ -65,12 +73,14 @@ mod mock_steps;
 mod mock_surcharge;
 mod mock_tangents;
 mod named;
+mod named_due;
 mod named_ends;
 mod named_generators;
 mod named_lists;
 mod named_marks;
 mod named_second;
 mod named_second_marks;
+mod named_struck;
 mod named_tangents;
 mod park;
 mod parks;

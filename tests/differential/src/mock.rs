@@ -2,7 +2,7 @@
 //! gathers all breaches of 01's table and takes the first. Where it finds the records of either
 //! version is in mock_layout.rs; its rules for the ends of lines are in mock_ends.rs, that for their
 //! marks in mock_marks.rs, those for generators in mock_generators.rs; its steps are in
-//! mock_steps.rs, mock_tangents.rs, mock_active.rs and mock_surcharge.rs, its calls in
+//! mock_steps.rs, mock_tangents.rs, mock_active.rs, mock_due.rs and mock_surcharge.rs, its calls in
 //! mock_calls.rs, and its making of files in mock_encode.rs. It can be told to make one mistake,
 //! and, in mock_one_way.rs, to make it by one way to the surcharge alone.
 

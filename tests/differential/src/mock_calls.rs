@@ -12,13 +12,18 @@ type Alone = [(Mistake, Mistake)];
 
 const OF_SITE: &Alone = &[
     (Mistake::FormerActiveOfSite, Mistake::FormerActive),
+    (Mistake::FormerDueOfSite, Mistake::FormerDue),
     (Mistake::EntryOneMoreOfSite, Mistake::EntryOneMore),
 ];
 const IN_PARK: &Alone = &[
     (Mistake::FormerActiveInPark, Mistake::FormerActive),
+    (Mistake::FormerDueInPark, Mistake::FormerDue),
     (Mistake::EntryOneMoreInPark, Mistake::EntryOneMore),
 ];
-const PRINTED: &Alone = &[(Mistake::FormerActivePrinted, Mistake::FormerActive)];
+const PRINTED: &Alone = &[
+    (Mistake::FormerActivePrinted, Mistake::FormerActive),
+    (Mistake::FormerDuePrinted, Mistake::FormerDue),
+];
 
 impl Mock {
     /// The bills, or those of a mistake that is made here alone.

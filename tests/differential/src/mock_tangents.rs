@@ -47,7 +47,7 @@ impl Mock {
     pub fn shown_tangent(&self, tangent: i64, active: i64, reason: i64) -> i64 {
         match self.0 {
             Some(Mistake::FormerTangent) => tangent.min(2_000),
-            Some(Mistake::FormerTangentIfNotPayable) if reason != 0 => tangent.min(2_000),
+            Some(Mistake::FormerTangentIfNothingDue) if reason != 0 => tangent.min(2_000),
             Some(Mistake::TangentTakenAsTwoBytes) => tangent as u16 as i64,
             Some(Mistake::TangentMostOfNothing) if active <= 0 => 99_999,
             _ => tangent,

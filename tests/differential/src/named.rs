@@ -1,8 +1,8 @@
 //! The named cases of 01 ("Park Alder, and its neighbours"), starred and unstarred, and a few of
 //! "Shortcuts the annex forbids"; those of 02 are in named_ends.rs, named_marks.rs,
-//! named_tangents.rs (R-4, and the largest Pc for R-6) and named_generators.rs. Every
-//! expected value is written by hand from the paper, and is held against the calculator as well as
-//! against the product.
+//! named_tangents.rs (R-4, and the largest Pc for R-6), named_generators.rs and named_due.rs
+//! . Every expected value is written by hand from the paper, and is held against the calculator
+//! as well as against the product.
 
 use crate::balance::balance;
 use crate::compare::Tester;
@@ -11,6 +11,7 @@ use crate::expect::{
     CONSUMPTION, CUT, GENERATION, P2, P3, PC, PG, REASON, SETTLED, TANGENT, TOTAL,
 };
 use crate::list::site;
+use crate::named_due;
 use crate::named_ends;
 use crate::named_generators;
 use crate::named_tangents;
@@ -29,6 +30,7 @@ pub fn run(tester: &mut Tester) {
     named_ends::files(tester);
     named_tangents::run(tester);
     named_generators::run(tester);
+    named_due::run(tester);
     forbidden_shortcuts(tester);
     generations(tester);
     extremes(tester);
@@ -86,9 +88,11 @@ fn reasons(tester: &mut Tester) {
         1,
         &numbers,
     );
-    let numbers = [(CONSUMPTION, 1_000), (GENERATION, 0), (REASON, 0)];
+    let numbers = [(CONSUMPTION, 1_000), (GENERATION, 0), (PC, 33_450), (PG, 0), (REASON, 0)];
     expect_numbers(tester, "Consumption 1,000, generation 0", &metered(0, 1_000, 400), 1, &numbers);
-    let numbers = [(CONSUMPTION, 999), (GENERATION, 10_008), (REASON, 0)];
+    // 10,008 x 669 x 500,000 / 100,000,000 is 33,476.76.
+    let numbers =
+        [(CONSUMPTION, 999), (GENERATION, 10_008), (PC, 0), (PG, 33_477), (P2, 0), (REASON, 0)];
     expect_numbers(
         tester,
         "Consumption 999, generation 10,008",
@@ -166,13 +170,13 @@ fn generations(tester: &mut Tester) {
     expect_numbers(tester, "Night valley on one", &with_transit(3, 1_000, 0), 1, &numbers);
     let numbers = [(GENERATION, 50_000), (PG, 500_000)];
     expect_numbers(tester, "Transit without the meter", &with_transit(1, 0, 0), 1, &numbers);
-    let numbers = [(GENERATION, 0), (PG, 200_000), (REASON, 0)];
+    let numbers = [(GENERATION, 0), (PG, 0), (REASON, 0)];
     expect_numbers(tester, "Generation cut alone", &with_transit(3, 6_000, 0), 1, &numbers);
 
-    // Dm of 669 and 700 is 684.5, so 685; 10 x 50 x 3 x 685 x 1,000,000 / 100,000,000 is 10,275.
+    // Dm of 669 and 700 is 684.5, so 685; 10 x 500 x 3 x 685 x 1,000,000 / 100,000,000 is 102,750.
     let lines = [[0, 1, 1, 669, 4_000, 2_000, 0, 0], [0, 1, 7, 700, 4_000, 2_000, 900, 300]];
-    let park = small_park(1_000_000, &[[400, 1, 50, 0, 0]], &lines);
-    expect_numbers(tester, "Computed", &park, 1, &[(GENERATION, 1_500), (PG, 10_275)]);
+    let park = small_park(1_000_000, &[[400, 1, 500, 0, 0]], &lines);
+    expect_numbers(tester, "Computed", &park, 1, &[(GENERATION, 15_000), (PG, 102_750)]);
     let mut flagless = with_transit(7, 1_000, 500);
     flagless.sites[0] = site([400, 0, 0, 0, 0]);
     expect_numbers(tester, "Flag 0", &flagless, 1, &[(GENERATION, 0), (PG, 0)]);

@@ -29,8 +29,8 @@ impl Coverage {
         self.count(Branch::LimitHoursMost, park.hours == MONTH_HOURS[park.month as usize - 1]);
         for site in &park.sites {
             self.count(Branch::LimitPowerLeast, site.power == 1);
-            self.count(Branch::LimitPowerUnpayable, site.power == 15);
-            self.count(Branch::LimitPowerPayable, site.power == 16);
+            self.count(Branch::LimitPowerLow, site.power == 15);
+            self.count(Branch::LimitPowerEnough, site.power == 16);
             self.count(Branch::LimitPowerMost, site.power == 1_000_000);
             self.count(Branch::LimitCompensation, site.compensation == 20_000);
             self.count(Branch::LimitMotors, site.motors == 20_000);

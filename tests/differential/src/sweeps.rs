@@ -1,8 +1,9 @@
 //! Sweeps: every value of one thing while the rest stays, in places where a table or a byte may be
 //! wrong at a single value. Those over files of version 2 are in generator_sweeps.rs, and that over
-//! the table of the surcharge is in table_sweeps.rs.
+//! the table of the surcharge is in table_sweeps.rs, those over the limits of step 7 in due_sweeps.rs.
 
 use crate::compare::Tester;
+use crate::due_sweeps;
 use crate::generator_sweeps;
 use crate::park::{Park, MONTH_HOURS};
 use crate::parks::{alder, one_line, small_park, with_line};
@@ -18,6 +19,7 @@ pub fn run(tester: &mut Tester) {
     around_the_reasons(tester);
     generator_sweeps::run(tester);
     table_sweeps::run(tester);
+    due_sweeps::run(tester);
 }
 
 /// Park Alder with each byte set to each value.

@@ -1,10 +1,11 @@
 //! Sweeps over the table of the surcharge (02, R-6): parks of both versions whose tangent is that
 //! of each entry, or one behind the table, with a Pc of which a factor wrong by a millionth changes
-//! P2, and with the largest. Tangent and Pc are asserted of the calculator's bill.
+//! P2, and with the largest; and a tangent of 0 of a site that owes no Pc. Tangent and Pc are asserted
+//! of the calculator's bill.
 
 use crate::calculator::bill_site;
 use crate::compare::Tester;
-use crate::expect::{PC, TANGENT};
+use crate::expect::{PC, SETTLED, TANGENT};
 use crate::generator_parks::{second, small_second};
 use crate::park::Park;
 use crate::parks::{one_line, small_park};
@@ -71,14 +72,16 @@ fn largest_charge(tester: &mut Tester, tangent: u32) {
     }
 }
 
-/// A tangent of 0 as a transit takes off all of WQ0, or more: the site consumes nothing and is
-/// payable by its generation, but D leaves losses.
+/// A tangent of 0 as a transit takes off all of WQ0, or more: the site consumes nothing and owes Pg
+/// alone (02, R-7), though D leaves losses.
 fn nothing_left(tester: &mut Tester) {
     for taken_off in [10_000, 10_001, 20_000] {
         let lines = [[0, 1, 1, 5_000, 1_000, 10_000, 0, 0], [1, 0, 1, 1, 0, taken_off, 0, 0]];
         let park = small_park(2_000_000, &[[16, 1, 1_000, 0, 0]], &lines);
         let name = format!("WQ0 10,000 less {taken_off}");
-        charged(tester, &name, 0, TELLING, &park);
-        charged(tester, &format!("{name}, version 2"), 0, TELLING, &second(park, &[]));
+        let bill = bill_site(&park.to_file(), 1).expect("a park of the sweep is accepted");
+        assert!(bill[SETTLED] > 0 && bill[PC] == 0, "{name}");
+        charged(tester, &name, 0, 0, &park);
+        charged(tester, &format!("{name}, version 2"), 0, 0, &second(park, &[]));
     }
 }

@@ -4,25 +4,18 @@
 //! the generated cases have to meet all of them by themselves.
 
 use crate::branches::{Tangents, TANGENTS_NAMES};
+use crate::kinds_coverage::Counts;
 use crate::layout::Version;
 use crate::park::Park;
-use crate::rules::{listed_park, Refusal};
 use crate::steps::{half, round, work_out, Working, MOST_TANGENT};
 
 #[derive(Default)]
-struct Counts([u64; TANGENTS_NAMES.len()]);
+pub struct TangentCounts([u64; TANGENTS_NAMES.len()]);
 
-#[derive(Default)]
-pub struct TangentsCoverage {
-    files: Counts,
-    generators: Counts,
-    lists: Counts,
-}
+impl Counts for TangentCounts {
+    const SECOND: &'static str = "file, site with a generator";
 
-impl Counts {
-    fn count(&mut self, tangents: Tangents, met: bool) {
-        self.0[tangents as usize] += met as u64;
-    }
+    const NAMES: &'static [&'static str] = TANGENTS_NAMES;
 
     fn park(&mut self, park: &Park) {
         for site in 1..=park.sites.len() {
@@ -32,6 +25,16 @@ impl Counts {
                 self.limits(&working);
             }
         }
+    }
+
+    fn counts(&self) -> &[u64] {
+        &self.0
+    }
+}
+
+impl TangentCounts {
+    fn count(&mut self, tangents: Tangents, met: bool) {
+        self.0[tangents as usize] += met as u64;
     }
 
     /// Step 2.
@@ -63,38 +66,10 @@ impl Counts {
         self.count(Tangents::HighTransit, estimated && above && !most);
         self.count(Tangents::MostTransit, estimated && most);
         self.count(Tangents::HighCut, above && work.consumption.losses < 0);
-        self.count(Tangents::HighPower, above && work.reason == 1);
-        self.count(Tangents::HighLow, above && work.reason == 2);
+        self.count(Tangents::HighPower, above && work.due.reason == 1);
+        self.count(Tangents::HighLow, above && work.due.reason == 2);
         self.count(Tangents::TwoSurcharge, charged && tangent == 2_000);
         self.count(Tangents::HighSurcharge, charged && above && !most);
         self.count(Tangents::MostSurcharge, charged && most);
-    }
-
-    fn named(&self, kind: &'static str) -> impl Iterator<Item = (String, u64)> {
-        let name = move |name| format!("generated {kind}: {name}");
-        TANGENTS_NAMES.iter().map(name).zip(self.0)
-    }
-}
-
-impl TangentsCoverage {
-    /// Counts what the calculator says of a file, if it is a park.
-    pub fn file(&mut self, answer: &Result<Park, Refusal>) {
-        match answer {
-            Ok(park) if park.version == Version::Two => self.generators.park(park),
-            Ok(park) => self.files.park(park),
-            Err(_) => {}
-        }
-    }
-
-    pub fn list(&mut self, numbers: &[u32]) {
-        if let Ok(park) = listed_park(numbers) {
-            self.lists.park(&park);
-        }
-    }
-
-    /// Every count with its name.
-    pub fn counts(&self) -> impl Iterator<Item = (String, u64)> {
-        let generators = self.generators.named("file, site with a generator");
-        self.files.named("file").chain(generators).chain(self.lists.named("list"))
     }
 }
