@@ -2,7 +2,7 @@
 # make test                            proves every crate and runs all tests
 # make table                           prints the table of the surcharge's factors, as the operators do
 # make examples                        the example files and the script bill, with the program as last built
-# make self-test                       holds the test program to finding 314 wrong calculators
+# make self-test                       holds the test program to finding 405 wrong calculators
 # make bench                           times the calls beside plain Rust
 
 .PHONY: bill test table examples self-test bench library

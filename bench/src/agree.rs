@@ -67,7 +67,7 @@ pub fn assert_agree(files: &Files, seed: u64) -> u32 {
 fn damage(random: &mut Random, file: &mut [u8]) {
     let place = random.between(0, file.len() as u64 - 1) as usize;
     let any = random.next() as u8;
-    file[place] = random.pick(&[0, 1, 4, 8, 17, 65, 255, any]);
+    file[place] = random.pick(&[0, 1, 2, 3, 4, 8, 17, 65, 255, any]);
 }
 
 /// Every site and one to either side; a list of each length that matters.

@@ -10,8 +10,8 @@ use crate::records::HEADER_BYTES;
 type Changes = &'static [(usize, u8)];
 
 /// Bytes of Alder's file of version 2 that break rules, and the refusal with its place. The lines
-/// begin at bytes 37, 62 and 87, the generator at 112.
-const REFUSED: [(Changes, (u64, u64)); 28] = [
+/// begin at bytes 37, 62 and 87, the generator at 112; the sites' flags are bytes 19 and 30.
+const REFUSED: [(Changes, (u64, u64)); 35] = [
     (&[(3, 3)], (3, 0)),
     (&[(4, 1)], (3, 0)),
     (&[(3, 1)], (9, 0)),
@@ -21,6 +21,14 @@ const REFUSED: [(Changes, (u64, u64)); 28] = [
     (&[(14, 255), (19, 2)], (25, 0)),
     (&[(14, 0)], (9, 0)),
     (&[(14, 32)], (9, 0)),
+    // Flags; without devices Q, and the generator.
+    (&[(19, 4)], (11, 1)),
+    (&[(30, 255)], (11, 2)),
+    (&[(19, 2)], (12, 1)),
+    (&[(30, 2), (33, 1)], (12, 2)),
+    (&[(19, 2), (20, 0)], (26, 1)),
+    (&[(30, 2), (112, 2)], (26, 1)),
+    (&[(19, 0), (20, 0)], (26, 1)),
     // Marks.
     (&[(39, 4)], (15, 1)),
     (&[(64, 12)], (15, 2)),
@@ -66,8 +74,8 @@ const BILLED: [(Changes, (u64, u64)); 6] = [
 ];
 
 /// Panics unless both leave these numbers and refusals, and the bill of version 1 for Alder's file
-/// without its generator; unless both count a second generator; and unless both refuse a file that
-/// is too short, and mark 8 in version 1.
+/// without its generator; unless both bill stations, and refuse them in version 1; unless both count
+/// a second generator; and unless both refuse a file that is too short, and mark 8 in version 1.
 pub fn assert_alder() {
     for (changes, (tangent, surcharge)) in BILLED {
         assert_billed(&changed(&ALDER_2, changes), tangent, surcharge);
@@ -76,6 +84,7 @@ pub fn assert_alder() {
         assert_refused(&changed(&ALDER_2, changes), refusal);
     }
     assert_billed(&changed(&ALDER_2[..112], &[(14, 0)]), 867, 328_725);
+    assert_stations();
 
     // 40,000 - 2,000 - 10,000 + 1,000 + 11,000 + 12,000 kWh.
     let two = changed(&[&ALDER_2[..], &[1, 0xE0, 0x2E, 0, 0]].concat(), &[(14, 2)]);
@@ -109,6 +118,21 @@ fn assert_billed(file: &[u8], tangent: u64, surcharge: u64) {
     ];
     assert_agree_on(file, 2);
     assert_eq!(park_billed::<Plain>(file, ROOM).numbers[..22], printed.concat(), "{file:?}");
+}
+
+/// Both sites as stations, the first with devices: their energies are the same, and of their money
+/// Pc is left, and the discount on it.
+fn assert_stations() {
+    let stations = changed(&ALDER_2, &[(19, 3), (30, 2)]);
+    let printed = [
+        [26_000, 650, 17_270_000, 0, 100_000, 863_500, 0, 0, 0, 863_500, 0],
+        [8_000, 533, 5_476_000, 0, 0, 273_800, 0, 0, 27_380, 246_420, 0],
+    ];
+    assert_agree_on(&stations, 2);
+    assert_eq!(park_billed::<Plain>(&stations, ROOM).numbers[..22], printed.concat());
+    for flag in 2..=3 {
+        assert_refused(&changed(&ALDER, &[(18, flag)]), (11, 1));
+    }
 }
 
 fn assert_refused(file: &[u8], refusal: (u64, u64)) {

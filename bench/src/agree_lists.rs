@@ -107,7 +107,7 @@ fn damage(random: &mut Random, list: &mut [u32]) {
     let index = random.between(0, list.len() as u64 - 1) as usize;
     let any = random.next() as u32;
     let [wider, widest] = [1 << 8, 1 << 16].map(|more| list[index].wrapping_add(more));
-    list[index] = random.pick(&[0, 1, 4, 8, 17, 65, 255, 20_001, wider, widest, any]);
+    list[index] = random.pick(&[0, 1, 2, 3, 4, 8, 17, 65, 255, 20_001, wider, widest, any]);
 }
 
 /// A buffer of each length that matters.
@@ -125,8 +125,8 @@ fn assert_agree_on(list: &[u32], file_len: usize) -> u32 {
 }
 
 /// Panics unless both make Park Alder's file from its numbers, want room for all of it, and refuse
-/// its list cut short, with numbers that are too large for their fields, or with a mark of version
-/// 2.
+/// its list cut short, with numbers that are too large for their fields, or with a mark or a flag
+/// of version 2.
 pub fn assert_alder() {
     let assert_left = |numbers: &[u32], buffer_len: usize, left: Outcome| {
         assert_eq!(encoded::<Plain>(numbers, buffer_len), left, "plain {numbers:?}");
@@ -144,5 +144,10 @@ pub fn assert_alder() {
         let mut numbers = ALDER_NUMBERS;
         numbers[17] = mark;
         assert_left(&numbers, ROOM, refused(15, 1));
+    }
+    for flag in 2..=4 {
+        let mut numbers = ALDER_NUMBERS;
+        numbers[6] = flag;
+        assert_left(&numbers, ROOM, refused(11, 1));
     }
 }

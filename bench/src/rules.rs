@@ -5,8 +5,8 @@
 //! are looked at only for a file that fails one.
 
 use crate::records::{Generator, Header, Line, Site};
+use crate::records::{DEVICES, MOST, MOST_2, MOST_GENERATORS, MOST_READING};
 use crate::records::{GENERATOR_BYTES, LINE_BYTES, LINE_BYTES_2, SITE_BYTES};
-use crate::records::{MOST_GENERATORS, MOST_READING};
 
 /// What the header says, and the records behind it, with lines of this length.
 pub struct Parts<'a, const BYTES: usize> {
@@ -59,7 +59,7 @@ fn records<'a, const BYTES: usize>(
     let (lines, generators) = rest.split_at(line_bytes);
     let sites = sites.as_chunks().0;
     for record in sites {
-        if !Site::read(record).is_good() {
+        if !Site::read(record).is_good::<BYTES>() {
             return None;
         }
     }
@@ -111,13 +111,14 @@ pub fn are_good_generators<const BYTES: usize>(
 }
 
 impl Site {
-    /// Whether it keeps rules 10 to 13.
+    /// Whether it keeps rules 10 to 13. The version is that of lines of this length.
     #[inline(always)]
-    fn is_good(&self) -> bool {
-        // Without the flag the most is 0.
-        let most_device = 20_000 * self.flag as u32;
+    fn is_good<const BYTES: usize>(&self) -> bool {
+        let most = if BYTES == LINE_BYTES { MOST } else { MOST_2 };
+        // Without devices the most is 0.
+        let most_device = 20_000 * (self.flag & DEVICES) as u32;
         self.power.wrapping_sub(1) < 1_000_000
-            && self.flag <= 1
+            && self.flag <= most.flag
             && self.compensation.max(self.motors) as u32 <= most_device
             && self.discount <= 1_000
     }
@@ -152,6 +153,6 @@ impl Generator {
     fn is_good(&self, sites: &[[u8; SITE_BYTES]]) -> bool {
         // Site 0 wraps round to above every site.
         let site = sites.get((self.site as usize).wrapping_sub(1));
-        site.is_some_and(|record| Site::read(record).flag == 1) && self.output <= MOST_READING
+        site.is_some_and(|record| Site::read(record).has_devices()) && self.output <= MOST_READING
     }
 }

@@ -11,3 +11,4 @@ pub mod Balances
 pub mod Outcomes
 pub mod ByTable
 pub mod ByReason
+pub mod Stations

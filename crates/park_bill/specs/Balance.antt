@@ -1,6 +1,6 @@
--- The loss balance (demand 3; 01, the paragraph after the eleven numbers; 02, R-5, of both versions, and R-7), for every accepted park whose lines between
--- two sites all have a meter of reactive consumption. It speaks of what a line carries at its ends, of no version and of no way to
--- the surcharge.
+-- The loss balance (demand 3; 01, the paragraph after the eleven numbers; 02, R-5, of both versions, R-7, and R-8, of power stations too), for every
+-- accepted park whose lines between two sites all have a meter of reactive consumption. It speaks of what a line carries at its ends, of no version,
+-- of no kind of site and of no way to the surcharge.
 -- Assumes nothing.
 use Rattle.std.specs.Prelude.{ℕ, ◌+◌, ◌*◌, ◌-◌, ◌≤◌, ◌↔◌, ◌≡◌, true, cond, List, eqb, ℤ, pos, ◌+ℤ◌, ◌-ℤ◌, get_or, length}
 use Rattle.park_format.specs.Park.{Park, inputs, park_of, transits}

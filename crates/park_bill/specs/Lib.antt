@@ -7,3 +7,4 @@ pub mod First
 pub mod Inner
 pub mod ByTable
 pub mod ByReason
+pub mod Stations

@@ -1,6 +1,6 @@
 -- Park Alder's list (01, "Park Alder, and its neighbours"), a list with its file byte by byte, lists of a wrong count, lists that differ
--- from Alder's in one number, which is too large for its field and within its limits once it is narrowed, and Alder's with a mark of
--- version 2 or with other ends of a line. `list_cases` of proofs/CaseTest.antt proves them.
+-- from Alder's in one number, which is too large for its field and within its limits once it is narrowed, and Alder's with a flag or a mark
+-- of version 2 or with other ends of a line. `list_cases` of proofs/CaseTest.antt proves them.
 -- Assumes nothing.
 use Rattle.std.specs.Prelude.{ℕ, ◌≡◌, List, [], ◌∷◌, ◌++◌, set, take}
 use Rattle.std.proofs.Math.Option.{some}
@@ -62,6 +62,10 @@ pub record ListCases : Type 0 where
   pub to : list_refusal (alder_with 16 257) ≡ some (14, 1)
   pub mark : list_refusal (alder_with 17 263) ≡ some (15, 1)
   pub eerp : list_refusal (alder_with 34 65537) ≡ some (16, 3)
+  -- the flags of version 2: at site 1, where Q is 50, and at site 2
+  pub flag2 : list_refusal (alder_with 6 2) ≡ some (11, 1)
+  pub flag3 : list_refusal (alder_with 6 3) ≡ some (11, 1)
+  pub flag2_alone : list_refusal (alder_with 11 2) ≡ some (11, 2)
   -- the marks of version 2
   pub mark8 : list_refusal (alder_with 17 8) ≡ some (15, 1)
   pub mark9 : list_refusal (alder_with 17 9) ≡ some (15, 1)

@@ -63,7 +63,7 @@ impl<'a> Records for List<'a> {
         let numbers = &self.numbers[at..at + SITE];
         Site {
             power: numbers[0],
-            devices: numbers[1],
+            flag: numbers[1],
             compensation: numbers[2],
             motors: numbers[3],
             discount: numbers[4],

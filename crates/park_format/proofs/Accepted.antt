@@ -77,17 +77,17 @@ kept_device x installed e =
     let w = or-false (ltb most_installed installed) (not (has_devices x) && not (eqb installed 0)) e in
     (ltb-false most_installed installed w.0, λ z. equal installed 0 (and-false (not (has_devices x)) (not (eqb installed 0)) w.1 (ap not z)))
 
-pub kept_site : (k : ℕ) (x : Site) → first_broken (site_rules k x) ≡ none → KeptSite x
+pub kept_site : (h : Header) (k : ℕ) (x : Site) → first_broken (site_rules h k x) ≡ none → KeptSite h x
 unfolding site_rules
-kept_site k x e =
-    let w = whole (site_rules k x) e in
+kept_site h k x e =
+    let w = whole (site_rules h k x) e in
     let rule12 : wrong_devices x ≡ false = search in
     let i = or-false (wrong_device x x.compensation) (wrong_device x x.motors) rule12 in
     let q = kept_device x x.compensation i.0 in
     let p = kept_device x x.motors i.1 in
     record {
       power = within most_power x.power search;
-      devices = ltb-false most_flag x.devices search;
+      flag = ltb-false (most_flag h.version) x.flag search;
       compensation = q.0;
       motors = p.0;
       without_devices = λ z. (q.1 z, p.1 z);
@@ -178,7 +178,7 @@ fed_from lines k (suc i) (x ∷ xs) e h =
 pub record Parts (short wrongLength : Bool) (p : Park) : Type 0 where
   pub start : short ≡ false
   pub header : first_broken (header_rules wrongLength p.header) ≡ none
-  pub sites : first_broken (each site_rules 1 p.sites) ≡ none
+  pub sites : first_broken (each (site_rules p.header) 1 p.sites) ≡ none
   pub lines : first_broken (each (line_rules p.header) 1 p.lines) ≡ none
   pub generators : first_broken (each (generator_rules p.header p.sites) 1 p.generators) ≡ none
   pub inputs : first_broken (each (input_rules p.lines) 1 p.sites) ≡ none
@@ -188,7 +188,7 @@ unfolding rules_with
 parts short wrongLength p e =
     let start = start_rules short in
     let header = header_rules wrongLength p.header in
-    let sites = each site_rules 1 p.sites in
+    let sites = each (site_rules p.header) 1 p.sites in
     let lines = each (line_rules p.header) 1 p.lines in
     let generators = each (generator_rules p.header p.sites) 1 p.generators in
     let inputs = each (input_rules p.lines) 1 p.sites in
@@ -208,7 +208,7 @@ kept_park {wrongLength = wrongLength} p size is same site_count line_count gener
       site_count = site_count;
       line_count = line_count;
       generator_count = generator_count;
-      sites = each_kept site_rules KeptSite kept_site 1 p.sites is.sites;
+      sites = each_kept (site_rules h) (KeptSite h) (kept_site h) 1 p.sites is.sites;
       lines = each_kept (line_rules h) (KeptLine h) (kept_line h) 1 p.lines is.lines;
       generators = each_kept (generator_rules h p.sites) (KeptGenerator h p.sites) (kept_generator h p.sites) 1 p.generators is.generators;
       fed = λ k low high. rw (← (add-sub_of_le low)) (fed_from p.lines 1 (k - 1) p.sites is.inputs (omega arith));

@@ -138,12 +138,12 @@ module _ (short wrongLength : Bool) (p : Park) where
   unfolding rules_with header_rules site_rules generator_rules input_rules
   in_lines apart e =
       let start = start_rules short ++ header_rules wrongLength p.header in
-      let sites = each site_rules 1 p.sites in
+      let sites = each (site_rules p.header) 1 p.sites in
       let lines = each (line_rules p.header) 1 p.lines in
       let generators = each (generator_rules p.header p.sites) 1 p.generators in
       let inputs = each (input_rules p.lines) 1 p.sites in
       ⊎_elim (λ h. absurd (apart (first_says Other start (λ t. inl (lit≤ tt), (λ t. inl (lit≤ tt), (λ t. inl (lit≤ tt), (λ t. inl (lit≤ tt), (λ t. inl (lit≤ tt), (λ t. inl (lit≤ tt), (λ t. inl (lit≤ tt), (λ t. inl (lit≤ tt), (λ t. inr (inr (lit≤ tt)), (λ t. inl (lit≤ tt), tt)))))))))) h)))
-      (λ after. ⊎_elim (λ h. absurd (apart (first_says Other sites (each_says Other site_rules (λ k x. (λ t. inl (lit≤ tt), (λ t. inl (lit≤ tt), (λ t. inl (lit≤ tt), (λ t. inl (lit≤ tt), tt))))) 1 p.sites) h)))
+      (λ after. ⊎_elim (λ h. absurd (apart (first_says Other sites (each_says Other (site_rules p.header) (λ k x. (λ t. inl (lit≤ tt), (λ t. inl (lit≤ tt), (λ t. inl (lit≤ tt), (λ t. inl (lit≤ tt), tt))))) 1 p.sites) h)))
       (λ after. ⊎_elim (λ h. h)
       (λ after. ⊎_elim (λ h. absurd (apart (first_says Other generators (each_says Other (generator_rules p.header p.sites) (λ k g. (λ t. inr (inr (lit≤ tt)), (λ t. inr (inr (lit≤ tt)), tt))) 1 p.generators) h)))
       (λ h. absurd (apart (first_says Other inputs (each_says Other (input_rules p.lines) (λ k x. (λ t. inr (inl refl), tt)) 1 p.sites) h)))

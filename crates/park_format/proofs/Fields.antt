@@ -20,7 +20,7 @@ pub header_of_lem : (file : List ℕ) → header_of file ≡ record { mark = num
 unfolding header_of fields_at
 header_of_lem file = simp later_field
 
-pub site_at_lem : (file : List ℕ) (at : ℕ) → site_at file at ≡ record { power = number_at 4 file at; devices = number_at 1 file (at + 4); compensation = number_at 2 file (at + 5); motors = number_at 2 file (at + 7); discount = number_at 2 file (at + 9) }
+pub site_at_lem : (file : List ℕ) (at : ℕ) → site_at file at ≡ record { power = number_at 4 file at; flag = number_at 1 file (at + 4); compensation = number_at 2 file (at + 5); motors = number_at 2 file (at + 7); discount = number_at 2 file (at + 9) }
 unfolding site_at fields_at
 site_at_lem file at = simp add_assoc
 

@@ -1,21 +1,24 @@
 -- Version 1 of the park file: its fields, what it lacks, its length, and its rules.
 -- Assumes nothing.
-use Prim.Native.Nat.{ℕ, suc, ◌+◌}
+use Prim.Native.Nat.{ℕ, zero, suc, ◌+◌, ◌%◌}
 use native.Mathlib.Omega.{arith}
 use mathlib.Core.Path.{◌≡◌, refl, sym, ap, ◌∙◌}
-use mathlib.Core.Bool.{Bool, true, false, cond, ◌||◌}
+use mathlib.Core.Bool.{Bool, true, false, cond, not, ◌&&◌, ◌||◌}
 use mathlib.Core.List.{List, [], ◌∷◌, ◌++◌}
 use mathlib.Core.Option.{Option, none, some}
 use lib.Dec.{eqb, ltb}
-use Rattle.park_format.specs.First.{FirstFields, first_header_rules, FirstLacks, FirstLength, first_line_rules, FirstMarks, FirstRefused}
+use borrow.Author.Tests.{lt-ltb}
+use Rattle.park_format.specs.First.{FirstFields, first_header_rules, FirstLacks, FirstLength, first_line_rules, first_site_rules, FirstFlags, FirstMarks, FirstRefused}
 use Rattle.park_format.specs.Format.{header_size, line_size, line_start, number_at}
 use Rattle.park_format.specs.Park.{generator_of, header_of, line_of, list_of, park_of}
 use Rattle.park_format.specs.Accepted.{Every}
-use Rattle.park_format.specs.Limits.{most_reading}
-use Rattle.park_format.specs.Rules.{each, file_rules, first_broken, generator_rules, has_wrong_length, header_rules, input_rules, is_short, line_rules, measures_produced, refusal, Row, rules_with, site_rules, start_rules, without_meter}
+use Rattle.park_format.specs.Limits.{most_installed, most_power, most_reading}
+use Rattle.park_format.specs.Rules.{each, file_rules, first_broken, generator_rules, has_wrong_length, header_rules, input_rules, is_short, line_rules, measures_produced, refusal, Row, rules_with, site_rules, says_devices, start_rules, without_meter, wrong_flag, zero_or_above}
+use Rattle.park_format.specs.Rules.Row.{rule}
 use Rattle.park_format.specs.declared.header.Header.{Header}
 use Rattle.park_format.specs.declared.line.Line.{Line}
-use Rattle.park_format.proofs.Lists.{Every-list_of}
+use Rattle.park_format.specs.declared.site.Site.{Site}
+use Rattle.park_format.proofs.Lists.{Every_all, Every-list_of}
 use Rattle.park_format.proofs.Rules.{first_append, first_stays}
 use Rattle.park_format.proofs.Fields.{header_of_lem, line_at_lem}
 
@@ -53,17 +56,17 @@ unfolding header_size line_size
 first_length file first = rw (first, no_generators file first) (omega arith)
 
 -- two tables that say the same
-abbrev Same : List Row → List Row → Type 0
+abbrev pub Same : List Row → List Row → Type 0
 Same xs ys = first_broken xs ≡ first_broken ys
 
-same_join : (xs ys us vs : List Row) → Same xs ys → Same us vs → Same (xs ++ us) (ys ++ vs)
+pub same_join : (xs ys us vs : List Row) → Same xs ys → Same us vs → Same (xs ++ us) (ys ++ vs)
 same_join xs ys us vs a b = by (first_broken ys) refl
   where
     by : (o : Option (ℕ × ℕ)) → first_broken ys ≡ o → Same (xs ++ us) (ys ++ vs)
     by none e = first_append xs us (a ∙ e) ∙ b ∙ sym (first_append ys vs e)
     by (some r) e = first_stays xs us (a ∙ e) ∙ sym (first_stays ys vs e)
 
-same_each : {A : Type 0} (P : A → Type 0) (f g : ℕ → A → List Row) → ((k : ℕ) (x : A) → P x → Same (f k x) (g k x)) → (k : ℕ) (xs : List A) → Every P xs → Same (each f k xs) (each g k xs)
+pub same_each : {A : Type 0} (P : A → Type 0) (f g : ℕ → A → List Row) → ((k : ℕ) (x : A) → P x → Same (f k x) (g k x)) → (k : ℕ) (xs : List A) → Every P xs → Same (each f k xs) (each g k xs)
 unfolding each
 same_each P f g same k [] e = refl
 same_each P f g same k (x ∷ xs) e = same_join (f k x) (g k x) (each f (suc k) xs) (each g (suc k) xs) (same k x e.0) (same_each P f g same (suc k) xs e.1)
@@ -85,7 +88,21 @@ same_line : (h : Header) → h.version ≡ 1 → (k : ℕ) (l : Line) → l.prod
 unfolding line_rules first_broken
 same_line h first k l lacks = rw (first, lacks, or_nothing (ltb most_reading l.night), metered_zero (measures_produced l.meters) (ltb l.generated l.night))
 
-park_version : (file : List ℕ) → (header_of file).version ≡ 1 → (park_of file).header.version ≡ 1
+-- a flag of version 1 says devices where it is not 0, and a higher one breaks 11 before 12 is asked
+same_flags : (k : ℕ) (power : Bool) (flag q p : ℕ) (rows : List Row)
+    → Same (rule 10 k power ∷ rule 11 k (ltb 1 flag) ∷ rule 12 k ((ltb most_installed q || (not (says_devices flag) && not (eqb q 0))) || (ltb most_installed p || (not (says_devices flag) && not (eqb p 0)))) ∷ rows)
+    (rule 10 k power ∷ rule 11 k (ltb 1 flag) ∷ rule 12 k ((ltb most_installed q || (eqb flag 0 && not (eqb q 0))) || (ltb most_installed p || (eqb flag 0 && not (eqb p 0)))) ∷ rows)
+unfolding first_broken
+same_flags k true flag q p rows = refl
+same_flags k false zero q p rows = refl
+same_flags k false (suc zero) q p rows = refl
+same_flags k false (suc (suc n)) q p rows = rw (lt-ltb 1 (suc (suc n)) (omega arith)) refl
+
+same_site : (h : Header) → h.version ≡ 1 → (k : ℕ) (x : Site) → Same (site_rules h k x) (first_site_rules k x)
+unfolding site_rules
+same_site h first k x = rw first (same_flags k (zero_or_above most_power x.power) x.flag x.compensation x.motors _)
+
+pub park_version : (file : List ℕ) → (header_of file).version ≡ 1 → (park_of file).header.version ≡ 1
 unfolding park_of
 park_version file e = e
 
@@ -99,15 +116,17 @@ first_refused file first =
     let start = start_rules (is_short file) in
     let header = header_rules (has_wrong_length file) h in
     let former = first_header_rules (has_wrong_length file) h in
-    let sites = each site_rules 1 p.sites in
+    let sites = each (site_rules h) 1 p.sites in
+    let formerSites = each first_site_rules 1 p.sites in
     let lines = each (line_rules h) 1 p.lines in
     let formerLines = each (first_line_rules h.sites) 1 p.lines in
     let inputs = each (input_rules p.lines) 1 p.sites in
     let generators = each (generator_rules h p.sites) 1 p.generators in
     let nothing = ap (each (generator_rules h p.sites) 1) lacks.1 in
-    same_join (start ++ header) (start ++ former) (sites ++ (lines ++ (generators ++ inputs))) (sites ++ (formerLines ++ inputs))
+    same_join (start ++ header) (start ++ former) (sites ++ (lines ++ (generators ++ inputs))) (formerSites ++ (formerLines ++ inputs))
     (same_join start start header former refl (same_header (has_wrong_length file) h version lacks.0.generators))
-    (same_join sites sites (lines ++ (generators ++ inputs)) (formerLines ++ inputs) refl
+    (same_join sites formerSites (lines ++ (generators ++ inputs)) (formerLines ++ inputs)
+    (same_each (λ (x : Site). Unit {0}) (site_rules h) first_site_rules (λ k x _. same_site h version k x) 1 p.sites (Every_all (λ x. tt) p.sites))
     (same_join lines formerLines (generators ++ inputs) inputs
     (same_each (λ (l : Line). l.produced ≡ 0) (line_rules h) (first_line_rules h.sites) (same_line h version) 1 p.lines lacks.0.lines)
     (ap (λ (rows : List Row). first_broken (rows ++ inputs)) nothing)))
@@ -115,3 +134,18 @@ first_refused file first =
 pub first_marks : FirstMarks
 first_marks =
     record { without = refl; beside = refl; reactive = refl; generated = refl; night = refl; has = refl; lacks = refl }
+
+pub first_flags : FirstFlags
+first_flags =
+    record { without = refl; beside = beside; former = refl; devices = devices; has = refl; lacks = refl }
+  where
+    beside : (flag : ℕ) → wrong_flag 2 (2 + flag) ≡ wrong_flag 1 flag
+    beside zero = refl
+    beside (suc zero) = refl
+    beside (suc (suc n)) = lt-ltb 3 (2 + suc (suc n)) (omega arith) ∙ sym (lt-ltb 1 (suc (suc n)) (omega arith))
+
+    even : (flag : ℕ) → (2 + flag) % 2 ≡ flag % 2
+    even flag = omega arith
+
+    devices : (flag : ℕ) → says_devices (2 + flag) ≡ says_devices flag
+    devices flag = ap (λ (n : ℕ). eqb n 1) (even flag)

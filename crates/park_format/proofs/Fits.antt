@@ -9,7 +9,7 @@ use lib.Dec.{lit≤}
 use lib.ListN.{get_or}
 use Rattle.park_format.specs.Accepted.{Kept, KeptGenerator, KeptHeader, KeptLine, KeptSite}
 use Rattle.park_format.specs.Format.{generator_widths, header_widths, later, line_widths, site_widths}
-use Rattle.park_format.specs.Limits.{longest_month, months, most_mark, most_sites}
+use Rattle.park_format.specs.Limits.{longest_month, months, most_flag, most_mark, most_sites}
 use Rattle.park_format.specs.Made.{Fits, FitsFile, Lacking, generator_numbers, header_numbers, line_numbers, site_numbers}
 use Rattle.park_format.specs.Park.{Park}
 use Rattle.park_format.specs.Rules.{month_hours, most_hours, zero_or_above}
@@ -41,9 +41,12 @@ header_fits size h k =
     let hours = most_hours_le h.month in
     (omega (arith, k.mark), (omega (arith, k.version), (omega (arith, k.month), (omega (arith, k.sites), (omega (arith, k.lines), (omega (arith, k.price), (omega (arith, k.hours, hours), later_fits h.version 1 h.generators (omega (arith, k.generators)))))))))
 
-site_fits : (x : Site) → KeptSite x → Fits site_widths (site_numbers x)
-site_fits x k =
-    (omega (arith, k.power), (omega (arith, k.devices), (omega (arith, k.compensation), (omega (arith, k.motors), (omega (arith, k.discount), tt)))))
+pub flags_few : (version : ℕ) → most_flag version ≤ 3
+flags_few = by_version (λ (b : Bool). cond b 1 3 ≤ 3) (lit≤ tt) (lit≤ tt)
+
+site_fits : (h : Header) (x : Site) → KeptSite h x → Fits site_widths (site_numbers x)
+site_fits h x k =
+    (omega (arith, k.power), (omega (arith, k.flag, flags_few h.version), (omega (arith, k.compensation), (omega (arith, k.motors), (omega (arith, k.discount), tt)))))
 
 marks_few : (version : ℕ) → most_mark version ≤ 15
 marks_few = by_version (λ (b : Bool). cond b 7 15 ≤ 15) (lit≤ tt) (lit≤ tt)
@@ -64,7 +67,7 @@ kept_fits size p k lacking =
       line_count = k.line_count;
       generator_count = k.generator_count;
       header = header_fits size h k.header;
-      sites = every_map KeptSite _ site_fits p.sites k.sites;
+      sites = every_map (KeptSite h) _ (site_fits h) p.sites k.sites;
       lines = every_map (KeptLine h) _ (line_fits h few) p.lines k.lines;
       generators = every_map (KeptGenerator h p.sites) _ (generator_fits h p.sites few) p.generators k.generators;
       first = lacking;

@@ -65,7 +65,7 @@ unfolding rules_with site_rules header_rules generator_rules input_rules
 same_refused short wrongLength p =
     let h = p.header in
     let start = start_rules short ++ header_rules wrongLength h in
-    let sites = each site_rules 1 p.sites in
+    let sites = each (site_rules h) 1 p.sites in
     let former = each (former_line_rules h) 1 p.lines in
     let lines = each (line_rules h) 1 p.lines in
     let generators = each (generator_rules h p.sites) 1 p.generators in
@@ -73,7 +73,7 @@ same_refused short wrongLength p =
     agree_join start start (sites ++ (former ++ (generators ++ inputs))) (sites ++ (lines ++ (generators ++ inputs)))
     (agree_same start (λ e. refl, (λ e. refl, (λ e. refl, (λ e. refl, (λ e. refl, (λ e. refl, (λ e. refl, (λ e. refl, (λ e. refl, (λ e. refl, tt)))))))))))
     (agree_join sites sites (former ++ (generators ++ inputs)) (lines ++ (generators ++ inputs))
-    (agree_each site_rules site_rules (λ k x. agree_same (site_rules k x) (λ e. refl, (λ e. refl, (λ e. refl, (λ e. refl, tt))))) 1 p.sites)
+    (agree_each (site_rules h) (site_rules h) (λ k x. agree_same (site_rules h k x) (λ e. refl, (λ e. refl, (λ e. refl, (λ e. refl, tt))))) 1 p.sites)
     (agree_join former lines (generators ++ inputs) (generators ++ inputs) (agree_each (former_line_rules h) (line_rules h) (agree_line h) 1 p.lines)
     (agree_join generators generators inputs inputs
     (agree_each (generator_rules h p.sites) (generator_rules h p.sites) (λ k g. agree_same (generator_rules h p.sites k g) (λ e. refl, (λ e. refl, tt))) 1 p.generators)

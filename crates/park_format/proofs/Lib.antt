@@ -15,6 +15,7 @@ pub mod Joined
 pub mod Made
 pub mod Again
 pub mod First
+pub mod Stations
 pub mod Fits
 pub mod Call
 pub mod Said

@@ -53,13 +53,13 @@ module _ (P : ℕ → Type 0) where
   pub table_says : (short wrongLength : Bool) (p : Park) → (short ≡ true → P 1) → Every Says (header_rules wrongLength p.header) → Every Says (each (generator_rules p.header p.sites) 1 p.generators) → ((n : ℕ) → 10 ≤ n → n ≤ 24 → OfTable n → P n) → Every Says (rules_of short wrongLength p)
   unfolding rules_with site_rules line_rules input_rules
   table_says short wrongLength p one header ofGenerators rest =
-      let sites = each site_rules 1 p.sites in
+      let sites = each (site_rules p.header) 1 p.sites in
       let lines = each (line_rules p.header) 1 p.lines in
       let generators = each (generator_rules p.header p.sites) 1 p.generators in
       let inputs = each (input_rules p.lines) 1 p.sites in
       Every_join Says (start_rules short ++ header_rules wrongLength p.header) (sites ++ (lines ++ (generators ++ inputs))) (one, header)
       (Every_join Says sites (lines ++ (generators ++ inputs))
-      (each_says site_rules (λ k x. (λ e. rest _ (lit≤ tt) (lit≤ tt) (listed _ refl), (λ e. rest _ (lit≤ tt) (lit≤ tt) (listed _ refl), (λ e. rest _ (lit≤ tt) (lit≤ tt) (listed _ refl), (λ e. rest _ (lit≤ tt) (lit≤ tt) (listed _ refl), tt))))) 1 p.sites)
+      (each_says (site_rules p.header) (λ k x. (λ e. rest _ (lit≤ tt) (lit≤ tt) (listed _ refl), (λ e. rest _ (lit≤ tt) (lit≤ tt) (listed _ refl), (λ e. rest _ (lit≤ tt) (lit≤ tt) (listed _ refl), (λ e. rest _ (lit≤ tt) (lit≤ tt) (listed _ refl), tt))))) 1 p.sites)
       (Every_join Says lines (generators ++ inputs)
       (each_says (line_rules p.header) (λ k l. (λ e. rest _ (lit≤ tt) (lit≤ tt) (listed _ refl), (λ e. rest _ (lit≤ tt) (lit≤ tt) (listed _ refl), (λ e. rest _ (lit≤ tt) (lit≤ tt) (listed _ refl), (λ e. rest _ (lit≤ tt) (lit≤ tt) (listed _ refl), (λ e. rest _ (lit≤ tt) (lit≤ tt) (listed _ refl), (λ e. rest _ (lit≤ tt) (lit≤ tt) (listed _ refl), (λ e. rest _ (lit≤ tt) (lit≤ tt) (listed _ refl), tt)))))))) 1 p.lines)
       (Every_join Says generators inputs ofGenerators

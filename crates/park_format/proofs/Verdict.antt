@@ -29,7 +29,7 @@ use Rattle.park_format.proofs.Rules.{first_append, first_stays, up_to, up_to_zer
 -- the records of a park, looked at part by part: its sites, its lines, its generators, and the park
 module _ (p : Park) where
   abbrev sites_part : List Row
-  sites_part = each site_rules 1 p.sites
+  sites_part = each (site_rules p.header) 1 p.sites
 
   abbrev lines_part : List Row
   lines_part = each (line_rules p.header) 1 p.lines

@@ -22,10 +22,10 @@ pub record KeptHeader (bytes : ℕ) (h : Header) : Type 0 where
   pub generators : h.generators ≤ most_generators
   pub size : bytes ≡ size_of h
 
--- 10 to 13
-pub record KeptSite (x : Site) : Type 0 where
+-- 10 to 13, in a park with that header
+pub record KeptSite (h : Header) (x : Site) : Type 0 where
   pub power : (1 ≤ x.power) × (x.power ≤ most_power)
-  pub devices : x.devices ≤ most_flag
+  pub flag : x.flag ≤ most_flag h.version
   pub compensation : x.compensation ≤ most_installed
   pub motors : x.motors ≤ most_installed
   pub without_devices : has_devices x ≡ false → (x.compensation ≡ 0) × (x.motors ≡ 0)
@@ -69,7 +69,7 @@ pub record Kept (bytes : ℕ) (p : Park) : Type 0 where
   pub site_count : length p.sites ≡ p.header.sites
   pub line_count : length p.lines ≡ p.header.lines
   pub generator_count : length p.generators ≡ p.header.generators
-  pub sites : Every KeptSite p.sites
+  pub sites : Every (KeptSite p.header) p.sites
   pub lines : Every (KeptLine p.header) p.lines
   pub generators : Every (KeptGenerator p.header p.sites) p.generators
   -- 19

@@ -9,4 +9,5 @@ pub mod Ends
 pub mod Accepted
 pub mod Made
 pub mod First
+pub mod Stations
 pub mod Inner

@@ -34,9 +34,9 @@ most_generators = 32
 abbrev pub most_power : ℕ
 most_power = 1000000
 
--- 11
-abbrev pub most_flag : ℕ
-most_flag = 1
+-- 11: the highest flag; in version 1 it tells of devices alone
+abbrev pub most_flag : ℕ → ℕ
+most_flag version = cond (eqb version 1) 1 3
 
 -- 12: kVAr, and kW
 abbrev pub most_installed : ℕ

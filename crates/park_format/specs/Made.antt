@@ -28,7 +28,7 @@ header_numbers version h =
     h.mark ∷ h.version ∷ h.month ∷ h.sites ∷ h.lines ∷ h.price ∷ h.hours ∷ later version (h.generators ∷ [])
 
 abbrev pub site_numbers : Site → List ℕ
-site_numbers x = x.power ∷ x.devices ∷ x.compensation ∷ x.motors ∷ x.discount ∷ []
+site_numbers x = x.power ∷ x.flag ∷ x.compensation ∷ x.motors ∷ x.discount ∷ []
 
 abbrev pub line_numbers : ℕ → Line → List ℕ
 line_numbers version l =

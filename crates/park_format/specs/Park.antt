@@ -26,7 +26,7 @@ abbrev pub site_from : List ℕ → Site
 site_from xs =
     record {
       power = get_or xs 0 0;
-      devices = get_or xs 1 0;
+      flag = get_or xs 1 0;
       compensation = get_or xs 2 0;
       motors = get_or xs 3 0;
       discount = get_or xs 4 0;

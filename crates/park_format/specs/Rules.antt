@@ -1,5 +1,5 @@
--- The rules of the park file (01, "Where each thing is checked"; 23 and 24: 02, R-2; 25 to 27: R-5): the table row by row, and the refusal that
--- it puts first.
+-- The rules of the park file (01, "Where each thing is checked"; 23 and 24: 02, R-2; 25 to 27: R-5; the flag: R-8): the table row by row, and the
+-- refusal that it puts first.
 -- A file is accepted when no row is broken. No other condition refuses.
 -- Assumes nothing.
 use Rattle.std.specs.Prelude.{ℕ, suc, ◌-◌, ◌/◌, ◌%◌, ◌≤◌, ◌⊎◌, ◌≡◌, Bool, true, false, cond, not, ◌&&◌, ◌||◌, List, [], ◌∷◌, ◌++◌, ltb, leb, eqb, length, get_or, Result, Ok, Err}
@@ -99,9 +99,20 @@ measures_night mark = eqb (mark / 4 % 2) 1
 abbrev pub measures_produced : ℕ → Bool
 measures_produced mark = eqb (mark / 8 % 2) 1
 
--- 12 and 26, and steps 6 and 9: the flag says that compensation or generating devices exist
+-- what a flag is the sum of: 1 where compensation or generating devices exist, 2 at a power station (annex 31; 02, R-8), from version 2 on
+abbrev pub says_devices : ℕ → Bool
+says_devices flag = eqb (flag % 2) 1
+
+abbrev pub says_station : ℕ → Bool
+says_station flag = eqb (flag / 2 % 2) 1
+
+-- 12 and 26, and steps 6 and 9
 abbrev pub has_devices : Site → Bool
-has_devices x = not (eqb x.devices 0)
+has_devices x = says_devices x.flag
+
+-- steps 9 and 10
+abbrev pub is_station : Site → Bool
+is_station x = says_station x.flag
 
 -- 9: 14 + 11s + 21n in version 1, 15 + 11s + 25n + 5g in version 2
 abbrev pub size_of : Header → ℕ
@@ -125,7 +136,11 @@ header_rules wrongLength h =
     ∷ rule 9 0 wrongLength
     ∷ []
 
--- 12, of one of Q and P: above 20,000, or not 0 while the flag is 0
+-- 11: flag above 1, in version 2 above 3
+abbrev pub wrong_flag : ℕ → ℕ → Bool
+wrong_flag version flag = ltb (most_flag version) flag
+
+-- 12, of one of Q and P: above 20,000, or not 0 without devices
 abbrev pub wrong_device : Site → ℕ → Bool
 wrong_device x installed = ltb most_installed installed || (not (has_devices x) && not (eqb installed 0))
 
@@ -133,11 +148,11 @@ wrong_device x installed = ltb most_installed installed || (not (has_devices x) 
 abbrev pub wrong_devices : Site → Bool
 wrong_devices x = wrong_device x x.compensation || wrong_device x x.motors
 
--- 10 to 13: one site
-unfoldable pub site_rules : ℕ → Site → List Row
-site_rules k x =
+-- 10 to 13: one site of a park with that header
+unfoldable pub site_rules : Header → ℕ → Site → List Row
+site_rules h k x =
     rule 10 k (zero_or_above most_power x.power)
-    ∷ rule 11 k (ltb most_flag x.devices)
+    ∷ rule 11 k (wrong_flag h.version x.flag)
     ∷ rule 12 k (wrong_devices x)
     ∷ rule 13 k (ltb most_discount x.discount)
     ∷ []
@@ -192,7 +207,7 @@ line_rules h k l =
     ∷ rule 18 k (wrong_readings l)
     ∷ []
 
--- 26: a generator's site is none of the s sites, or its flag is 0
+-- 26: a generator's site is none of the s sites, or has no devices
 abbrev pub wrong_generator : Header → List Site → Generator → Bool
 wrong_generator h sites g = zero_or_above h.sites g.site || not (has_devices (get_or sites (g.site - 1) no_site))
 
@@ -223,7 +238,7 @@ each rules k (x ∷ xs) = rules k x ++ each rules (suc k) xs
 unfoldable pub rules_with : (Header → ℕ → Line → List Row) → Bool → Bool → Park → List Row
 rules_with ofLine short wrongLength p =
     (start_rules short ++ header_rules wrongLength p.header)
-    ++ (each site_rules 1 p.sites
+    ++ (each (site_rules p.header) 1 p.sites
     ++ (each (ofLine p.header) 1 p.lines
     ++ (each (generator_rules p.header p.sites) 1 p.generators
     ++ each (input_rules p.lines) 1 p.sites)))

@@ -48,10 +48,11 @@ pub trait Accepted: Records {
 // Sites, lines and generators have a loop each: what is asked of them differs, and one function that is told what to ask would be longer.
 // The first broken rule of the sites, in their order, if one is broken.
 fn check_sites<R: Records>(records: &R) -> Result<(), Refusal>
-    ensures { refusal_of result ≡ first_broken (each site_rules 1 (R.park records.now).sites) }
+    ensures { refusal_of result ≡ first_broken (each (site_rules (R.park records.now).header) 1 (R.park records.now).sites) }
 {
-    for k in 0..records.header().sites {
-        rule::at_place(records.site(k).check(), k + 1)?;
+    let header = records.header();
+    for k in 0..header.sites {
+        rule::at_place(records.site(k).check(header), k + 1)?;
     }
     Ok(())
 }

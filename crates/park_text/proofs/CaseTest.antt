@@ -34,11 +34,10 @@ use Rattle.park_text.specs.Answer.{answer_to}
 use Rattle.park_text.specs.Ascii.{ascii}
 use Rattle.park_text.specs.Text.{bill_text, decimal, digits_within, fields_text, names_text, refusal_text, site_text, sites_text}
 use Rattle.park_text.specs.Cases.{accepts, agree, AllCases, Case, cases, charges_within, holds, measured_line, numbers, refuses, Says, undue_at, Whether}
-use Rattle.park_text.specs.Cases.Case.{active_case, balance_case, by_reason_case, by_table_case, charge_case, charges_case, due_case, estimate_case, file_case, former_case, printed, reason_case, refused_case, surcharge_case, tangent_case, whole_bill}
+use Rattle.park_text.specs.Cases.Case.{active_case, balance_case, by_reason_case, by_table_case, charge_case, charges_case, due_case, estimate_case, file_case, former_case, former_station_case, printed, reason_case, refused_case, station_case, surcharge_case, tangent_case, whole_bill}
 use Rattle.park_charge.proofs.Former.{same_reason}
-use Rattle.park_bill.proofs.Money.{no_money}
-use Rattle.park_bill.proofs.ByReason.{both_due, only_money, only_struck}
-use Rattle.park_bill.proofs.Outcomes.{loss_balance}
+use Rattle.park_text.proofs.Instances.{accepted_laws, refused_laws, site_laws}
+use Rattle.park_bill.proofs.Outcomes.{loss_balance, site_in_balance}
 use Rattle.park_bill.proofs.Balances.{over_cong, over_none, over_zero}
 
 -- the test
@@ -133,15 +132,22 @@ entry (whole_bill file list settled network) e =
     (accepts_is (refusal file) a.0, ((bytes_decides _ list).0 b.0, (eqb-true _ settled c.0, (Decides-int_eq _ (pos network)).0 c.1)))
 entry (file_case file bytes) e = (bytes_decides file bytes).0 e
 entry (printed file text) e = (bytes_decides _ (ascii text)).0 e
-entry (former_case file k list) e = (bytes_decides _ list).0 e
-entry (by_reason_case file k list) e =
-    let p = park_of file in
-    ((bytes_decides _ list).0 e, (only_money p k, (only_struck p k, (both_due p k, no_money p k))))
-entry (by_table_case file k list) e = (bytes_decides _ list).0 e
-entry (refused_case file number place) e = refuses_is number place (refusal file) e
+entry (former_case file k list) e = ((bytes_decides _ list).0 e, site_laws (park_of file) k)
+entry (by_reason_case file k list) e = ((bytes_decides _ list).0 e, site_laws (park_of file) k)
+entry (station_case file k station list) e =
+    let a = and_both _ _ e in
+    let b = and_both _ _ a.1 in
+    let accepted = accepts_is (refusal file) a.0 in
+    (accepted, (agrees station _ b.0, ((bytes_decides _ list).0 b.1, accepted_laws file accepted k)))
+entry (former_station_case file k list) e = ((bytes_decides _ list).0 e, site_laws (park_of file) k)
+entry (by_table_case file k list) e = ((bytes_decides _ list).0 e, site_laws (park_of file) k)
+entry (refused_case file number place) e =
+    let is = refuses_is number place (refusal file) e in
+    (is, refused_laws file is)
 entry (active_case file k wp) e =
     let a = and_both _ _ e in
-    (accepts_is (refusal file) a.0, eqb-true _ wp a.1)
+    let accepted = accepts_is (refusal file) a.0 in
+    (accepted, (eqb-true _ wp a.1, accepted_laws file accepted k))
 entry (tangent_case wq wp tg) e = eqb-true _ tg e
 entry (estimate_case tg wp out) e = eqb-true _ out e
 entry (surcharge_case tg pc p2) e =
@@ -169,7 +175,10 @@ entry (balance_case file energy measured balanced uncut) e =
               whether uncut _ (uncut_is (λ (k : ℕ). numbers file k 4) _) (is_uncut (λ (k : ℕ). numbers file k 4) _) d.1,
               λ m. (
                 loss_balance.1 file (accepts_is (refusal file) a.0) m,
-                λ before long. loss_balance.0 file before (accepts_is (refusal file) a.0) m long,
+                (
+                  λ before long. loss_balance.0 file before (accepts_is (refusal file) a.0) m long,
+                  λ site bills same. (site_in_balance file site refl (accepts_is (refusal file) a.0) m).1 bills same,
+                ),
               ),
             ),
           ),

@@ -2,8 +2,9 @@
 -- what is printed for Alder, for Alder with WQ 40,000 on line 2 and for one file that is refused, site 2 of Alder with WQ 40,000 on line 2 under
 -- the former limit of tg and by the operators' table, two parks in which no meter tells what a site sends on, and four parks that show what the
 -- condition of the loss balance is for; parks of version 2, with and without generators, accepted and refused (02, R-5); and sites on both sides of
--- each limit of what is due, with the former bills of five, and parks that show what the last condition of the balance is for (02, R-7). `holds`
--- says of each entry whether it is so; `Says` is what it then means. `all_cases` of CaseTest is the proof of `AllCases`.
+-- each limit of what is due, with the former bills of five, and parks that show what the last condition of the balance is for (02, R-7); and power
+-- stations beside the same sites without the mark, and the flags that are refused (02, R-8). `holds` says of each entry whether it is so; `Says` is
+-- what it then means. `all_cases` of CaseTest is the proof of `AllCases`.
 -- Assumes nothing.
 use Rattle.std.specs.Prelude.{ℕ, ◌+◌, ◌*◌, ◌≤◌, ◌≡◌, Bool, true, false, cond, not, ◌&&◌, ◌||◌, List, [], ◌∷◌, ◌++◌, eqb, leb, nat_eq, length, ℤ, pos, negsuc, ◌+ℤ◌}
 use Prim.Native.String.{String}
@@ -11,23 +12,26 @@ use Rattle.std.specs.Cmp.Lexicographic.{pointwise}
 use Rattle.std.specs.Ordering.{int_eq}
 use Rattle.std.proofs.Math.Option.{Option, none, some}
 use Rattle.park_format.specs.Park.{park_of}
-use Rattle.park_format.specs.Rules.{IsAccepted, measures_reactive, refusal}
+use Rattle.park_format.specs.Rules.{IsAccepted, is_station, measures_reactive, refusal}
+use Rattle.park_format.specs.Stations.{without_marks}
 use Rattle.park_format.specs.Accepted.{Every}
 use Rattle.park_format.specs.declared.line.Line.{Line}
 use Rattle.park_charge.specs.Flow.{estimated_out, tangent}
 use Rattle.park_charge.specs.Charge.{consumption_due, generation_due, loss_charge, reason, surcharge}
 use Rattle.park_charge.specs.Former.{former_reason}
 use Rattle.park_charge.specs.ByTable.{surcharge_by_table}
-use Rattle.park_sums.specs.Sums.{all_of, over_sites}
-use Rattle.park_bill.specs.Bill.{active_net, bill, bill_numbers, Nothing, site_record, touching, words}
-use Rattle.park_bill.specs.ByReason.{bill_by_reason, due_at, struck, with_money}
+use Rattle.park_sums.specs.Sums.{all_of, EachSite, over_sites}
+use Rattle.park_bill.specs.Bill.{active_net, bill, bill_numbers, site_record, touching, words}
+use Rattle.park_bill.specs.ByReason.{bill_by_reason}
 use Rattle.park_bill.specs.ByTable.{bill_by_table}
 use Rattle.park_bill.specs.Former.{former_bill}
-use Rattle.park_bill.specs.Reply.{bills_of, in_list, in_reply, list_after, site_outcome}
-use Rattle.park_bill.specs.Balance.{added, AllConsumptionDue, AllZero, Balance, ChargesWithin, Measured, network_energy}
+use Rattle.park_bill.specs.Reply.{bills_of, in_list, in_reply, list_after, reply_numbers, site_outcome}
+use Rattle.park_bill.specs.Stations.{bill_without_stations}
+use Rattle.park_bill.specs.Balance.{added, AllConsumptionDue, AllZero, Balance, ChargesWithin, Measured, network_energy, with_numbers}
 use Rattle.park_text.specs.Answer.{answer_to}
 use Rattle.park_text.specs.Ascii.{ascii}
-use Rattle.park_text.specs.Parks.{alder, alder_back, alder_cut, alder_high, alder_refused, alder_second, alder_unmetered, head_second, limits, limits_second, mixed_second, one_limit, one_line, own_back, own_none, own_on, own_short, unfed_second}
+use Rattle.park_text.specs.Instances.{AcceptedLaws, RefusedLaws, SiteLaws}
+use Rattle.park_text.specs.Parks.{alder, alder_back, alder_cut, alder_high, alder_refused, alder_second, alder_stations, alder_unmetered, four_flags, head_second, limits, limits_second, limits_stations, mixed_second, one_flag, one_limit, one_line, own_back, own_none, own_on, own_short, unfed_second}
 
 -- number j of site k, as bill_site replies it, and that number added over the sites
 abbrev pub numbers : List ℕ → ℕ → ℕ → ℕ
@@ -45,8 +49,12 @@ pub data Case : Type 0 where
   printed : List ℕ → String → Case
   -- a file, a site, and its numbers with the former limit of tg
   former_case : List ℕ → ℕ → List ℕ → Case
-  -- a file, a site, and its numbers by step 7 as it was, of which its bill is what is due
+  -- a file, a site, and its numbers by step 7 as it was
   by_reason_case : List ℕ → ℕ → List ℕ → Case
+  -- a file that is accepted, a site, whether it is a station, and its numbers without the mark
+  station_case : List ℕ → ℕ → Bool → List ℕ → Case
+  -- a file, a site, and its numbers as they were before there were stations
+  former_station_case : List ℕ → ℕ → List ℕ → Case
   -- a file, a site, and its numbers with the surcharge by the operators' table
   by_table_case : List ℕ → ℕ → List ℕ → Case
   -- a file and its refusal: number and place
@@ -66,7 +74,7 @@ pub data Case : Type 0 where
   -- power, consumption and generation; whether the consumption charge is due, and the charge for generation; the reason
   due_case : ℕ → ℕ → ℕ → Bool → Bool → ℕ → Case
   -- a file that is accepted; its energy at the network, whether it meets the condition, whether settled losses are in balance, and
-  -- whether no site is cut; if it meets the condition, it has the whole balance of replies and list
+  -- whether no site is cut; if it meets the condition, it has the whole balance of replies and list, and of each reply among the others
   balance_case : List ℕ → ℤ → Bool → Bool → Bool → Case
   -- a file that is accepted, meets the condition of the balance and has no cut; whether all its consumption charges are due, whether all its
   -- reasons are 0, and whether its charges are within half a kopeck a site, which they are by the balance if the first is so
@@ -85,8 +93,20 @@ limit_bills =
     ∷ 1000 ∷ 1000 ∷ 669000 ∷ 0 ∷ 9990 ∷ 33450 ∷ 0 ∷ 18816 ∷ 3345 ∷ 48921 ∷ 0
     ∷ []
 
+-- and of the same seven sites as stations: for generation alone there is no money, and the reason is 0
+abbrev pub station_bills : List ℕ
+station_bills =
+    999 ∷ 999 ∷ 668331 ∷ 0 ∷ 10000 ∷ 0 ∷ 0 ∷ 0 ∷ 0 ∷ 0 ∷ 0
+    ∷ 1000 ∷ 1000 ∷ 669000 ∷ 0 ∷ 9999 ∷ 33450 ∷ 0 ∷ 0 ∷ 3345 ∷ 30105 ∷ 0
+    ∷ 1000 ∷ 1000 ∷ 669000 ∷ 0 ∷ 10000 ∷ 33450 ∷ 0 ∷ 0 ∷ 3345 ∷ 30105 ∷ 0
+    ∷ 999 ∷ 999 ∷ 668331 ∷ 0 ∷ 9999 ∷ 0 ∷ 0 ∷ 0 ∷ 0 ∷ 0 ∷ 2
+    ∷ 1000 ∷ 1000 ∷ 669000 ∷ 0 ∷ 10000 ∷ 0 ∷ 0 ∷ 0 ∷ 0 ∷ 0 ∷ 1
+    ∷ 0 ∷ 0 ∷ 0 ∷ 0 ∷ 10000 ∷ 0 ∷ 0 ∷ 0 ∷ 0 ∷ 0 ∷ 0
+    ∷ 1000 ∷ 1000 ∷ 669000 ∷ 0 ∷ 9990 ∷ 33450 ∷ 0 ∷ 0 ∷ 3345 ∷ 30105 ∷ 0
+    ∷ []
+
 -- Alder's bytes, 01's cases (with the two parks and the former bill, a WP0 of 0 with and without WQ0, and tg at each of its limits), three
--- answers, the four parks, version 2, and what is due
+-- answers, the four parks, version 2, what is due, and stations
 abbrev pub cases : List Case
 cases =
     file_case alder (80 ∷ 82 ∷ 75 ∷ 1 ∷ 0 ∷ 4 ∷ 2 ∷ 3 ∷ 32 ∷ 161 ∷ 7 ∷ 0 ∷ 200 ∷ 0 ∷ 144 ∷ 1 ∷ 0 ∷ 0 ∷ 1 ∷ 50 ∷ 0 ∷ 0 ∷ 0 ∷ 0 ∷ 0 ∷ 100 ∷ 0 ∷ 0 ∷ 0 ∷ 0 ∷ 0 ∷ 0 ∷ 0 ∷ 0 ∷ 100 ∷ 0 ∷ 0 ∷ 1 ∷ 1 ∷ 157 ∷ 2 ∷ 64 ∷ 156 ∷ 0 ∷ 0 ∷ 48 ∷ 117 ∷ 0 ∷ 0 ∷ 0 ∷ 0 ∷ 0 ∷ 0 ∷ 0 ∷ 0 ∷ 0 ∷ 0 ∷ 1 ∷ 2 ∷ 1 ∷ 188 ∷ 2 ∷ 16 ∷ 39 ∷ 0 ∷ 0 ∷ 160 ∷ 15 ∷ 0 ∷ 0 ∷ 0 ∷ 0 ∷ 0 ∷ 0 ∷ 0 ∷ 0 ∷ 0 ∷ 0 ∷ 0 ∷ 2 ∷ 0 ∷ 157 ∷ 2 ∷ 136 ∷ 19 ∷ 0 ∷ 0 ∷ 0 ∷ 0 ∷ 0 ∷ 0 ∷ 0 ∷ 0 ∷ 0 ∷ 0 ∷ 0 ∷ 0 ∷ 0 ∷ 0 ∷ [])
@@ -207,6 +227,42 @@ cases =
     ∷ charges_case (one_limit 15 1000 0 669 1000) false false false
     ∷ charges_case (one_limit 16 0 3333 669 0) false false true
     ∷ charges_case (limits 4) false false false
+    -- stations: the seven sites, the four flags, and one that is cut
+    ∷ whole_bill (limits_stations 4) station_bills 4012662 4012662
+    ∷ whole_bill four_flags (2000 ∷ 2000 ∷ 1338000 ∷ 0 ∷ 0 ∷ 66900 ∷ 0 ∷ 204881 ∷ 6690 ∷ 265091 ∷ 0 ∷ 2000 ∷ 2000 ∷ 1338000 ∷ 0 ∷ 10000 ∷ 66900 ∷ 33450 ∷ 204881 ∷ 10035 ∷ 295196 ∷ 0 ∷ 2000 ∷ 2000 ∷ 1338000 ∷ 0 ∷ 0 ∷ 66900 ∷ 0 ∷ 0 ∷ 6690 ∷ 60210 ∷ 0 ∷ 2000 ∷ 1000 ∷ 1338000 ∷ 0 ∷ 10000 ∷ 66900 ∷ 0 ∷ 0 ∷ 6690 ∷ 60210 ∷ 0 ∷ []) 5352000 5352000
+    ∷ whole_bill alder_stations (0 ∷ 0 ∷ 0 ∷ 7930000 ∷ 100000 ∷ 0 ∷ 0 ∷ 0 ∷ 0 ∷ 0 ∷ 0 ∷ 44000 ∷ 2933 ∷ 30676000 ∷ 0 ∷ 0 ∷ 1533800 ∷ 0 ∷ 0 ∷ 153380 ∷ 1380420 ∷ 0 ∷ []) 30676000 22746000
+    ∷ balance_case alder_stations (pos 22746000) true true false
+    ∷ charges_case four_flags true true true
+    ∷ charges_case (limits_stations 4) false false false
+    -- and what their sites have without the mark
+    ∷ station_case (limits_stations 4) 1 true (999 ∷ 999 ∷ 668331 ∷ 0 ∷ 10000 ∷ 0 ∷ 33450 ∷ 0 ∷ 3345 ∷ 30105 ∷ 0 ∷ [])
+    ∷ station_case (limits_stations 4) 3 true (1000 ∷ 1000 ∷ 669000 ∷ 0 ∷ 10000 ∷ 33450 ∷ 33450 ∷ 18816 ∷ 6690 ∷ 79026 ∷ 0 ∷ [])
+    ∷ station_case (limits_stations 4) 4 true (999 ∷ 999 ∷ 668331 ∷ 0 ∷ 9999 ∷ 0 ∷ 0 ∷ 0 ∷ 0 ∷ 0 ∷ 2 ∷ [])
+    ∷ station_case (limits_stations 4) 5 true (1000 ∷ 1000 ∷ 669000 ∷ 0 ∷ 10000 ∷ 0 ∷ 0 ∷ 0 ∷ 0 ∷ 0 ∷ 1 ∷ [])
+    ∷ station_case four_flags 1 false (2000 ∷ 2000 ∷ 1338000 ∷ 0 ∷ 0 ∷ 66900 ∷ 0 ∷ 204881 ∷ 6690 ∷ 265091 ∷ 0 ∷ [])
+    ∷ station_case four_flags 2 false (2000 ∷ 2000 ∷ 1338000 ∷ 0 ∷ 10000 ∷ 66900 ∷ 33450 ∷ 204881 ∷ 10035 ∷ 295196 ∷ 0 ∷ [])
+    ∷ station_case four_flags 3 true (2000 ∷ 2000 ∷ 1338000 ∷ 0 ∷ 0 ∷ 66900 ∷ 0 ∷ 204881 ∷ 6690 ∷ 265091 ∷ 0 ∷ [])
+    ∷ station_case four_flags 4 true (2000 ∷ 1000 ∷ 1338000 ∷ 0 ∷ 10000 ∷ 66900 ∷ 33450 ∷ 37631 ∷ 10035 ∷ 127946 ∷ 0 ∷ [])
+    ∷ station_case alder_stations 2 true (44000 ∷ 2933 ∷ 30676000 ∷ 0 ∷ 0 ∷ 1533800 ∷ 0 ∷ 4697263 ∷ 153380 ∷ 6077683 ∷ 0 ∷ [])
+    ∷ station_case (limits 4) 3 false (1000 ∷ 1000 ∷ 669000 ∷ 0 ∷ 10000 ∷ 33450 ∷ 33450 ∷ 18816 ∷ 6690 ∷ 79026 ∷ 0 ∷ [])
+    -- what they had before there were stations, when a flag of 2 said devices; by the operators' table, and with the former limit of tg
+    ∷ former_station_case four_flags 3 (2000 ∷ 2000 ∷ 1338000 ∷ 0 ∷ 10000 ∷ 66900 ∷ 33450 ∷ 204881 ∷ 10035 ∷ 295196 ∷ 0 ∷ [])
+    ∷ former_station_case four_flags 4 (2000 ∷ 1000 ∷ 1338000 ∷ 0 ∷ 10000 ∷ 66900 ∷ 33450 ∷ 37631 ∷ 10035 ∷ 127946 ∷ 0 ∷ [])
+    ∷ by_table_case alder_stations 2 (44000 ∷ 2933 ∷ 30676000 ∷ 0 ∷ 0 ∷ 1533800 ∷ 0 ∷ 0 ∷ 153380 ∷ 1380420 ∷ 0 ∷ [])
+    ∷ former_case alder_stations 2 (44000 ∷ 2000 ∷ 30676000 ∷ 0 ∷ 0 ∷ 1533800 ∷ 0 ∷ 0 ∷ 153380 ∷ 1380420 ∷ 0 ∷ [])
+    -- flags, by version; Q, P and a generator where the flag has no 1, and where it has
+    ∷ refused_case (one_flag 1 2 0 0 []) 11 1
+    ∷ refused_case (one_flag 1 3 0 0 []) 11 1
+    ∷ refused_case (one_flag 1 2 1 0 []) 11 1
+    ∷ refused_case (one_flag 2 4 0 0 (0 ∷ [])) 11 1
+    ∷ refused_case (one_flag 2 255 0 0 (0 ∷ [])) 11 1
+    ∷ refused_case (one_flag 2 2 1 0 (0 ∷ [])) 12 1
+    ∷ refused_case (one_flag 2 2 0 1 (0 ∷ [])) 12 1
+    ∷ refused_case (one_flag 2 0 1 0 (0 ∷ [])) 12 1
+    ∷ refused_case (one_flag 2 3 20001 0 (0 ∷ [])) 12 1
+    ∷ active_case (one_flag 2 3 20000 20000 (0 ∷ [])) 1 1000
+    ∷ refused_case (one_line 2 2 8 0 0 ((1 ∷ 0 ∷ []) ∷ [])) 26 1
+    ∷ active_case (one_line 2 3 8 1000 5000 ((1 ∷ 4500 ∷ []) ∷ [])) 1 500
     ∷ []
 
 abbrev pub same : List ℕ → List ℕ → Bool
@@ -251,6 +307,10 @@ holds (file_case file bytes) = same file bytes
 holds (printed file text) = same (answer_to file) (ascii text)
 holds (former_case file k list) = same (words (former_bill (park_of file) k)) list
 holds (by_reason_case file k list) = same (words (bill_by_reason (park_of file) k)) list
+holds (station_case file k station list) =
+    let p = park_of file in
+    accepts (refusal file) && (agree station (is_station (site_record p k)) && same (words (bill (without_marks p) k)) list)
+holds (former_station_case file k list) = same (words (bill_without_stations (park_of file) k)) list
 holds (by_table_case file k list) = same (words (bill_by_table (park_of file) k)) list
 holds (refused_case file number place) = refuses number place (refusal file)
 holds (active_case file k wp) = accepts (refusal file) && eqb (active_net (touching k (park_of file))) wp
@@ -287,18 +347,18 @@ Says (whole_bill file list settled network) =
     × ((total file 3 ≡ settled) × (network_energy (park_of file) ≡ pos network)))
 Says (file_case file bytes) = file ≡ bytes
 Says (printed file text) = answer_to file ≡ ascii text
-Says (former_case file k list) = words (former_bill (park_of file) k) ≡ list
-Says (by_reason_case file k list) =
+Says (former_case file k list) = (words (former_bill (park_of file) k) ≡ list) × SiteLaws (park_of file) k
+Says (by_reason_case file k list) = (words (bill_by_reason (park_of file) k) ≡ list) × SiteLaws (park_of file) k
+Says (station_case file k station list) =
     let p = park_of file in
-    let former = bill_by_reason p k in
-    (words former ≡ list)
-    × ((bill p k ≡ with_money (bill p k) former)
-    × ((bill p k ≡ struck (due_at p k) (site_record p k).discount former)
-    × (((due_at p k).consumption ≡ true → (due_at p k).generation ≡ true → bill p k ≡ former)
-    × (((bill p k).reason ≡ 0 → ⊥) → Nothing (bill p k)))))
-Says (by_table_case file k list) = words (bill_by_table (park_of file) k) ≡ list
-Says (refused_case file number place) = refusal file ≡ some (number, place)
-Says (active_case file k wp) = IsAccepted file × (active_net (touching k (park_of file)) ≡ wp)
+    IsAccepted file
+    × ((is_station (site_record p k) ≡ station) × ((words (bill (without_marks p) k) ≡ list) × AcceptedLaws file k))
+Says (former_station_case file k list) = (words (bill_without_stations (park_of file) k) ≡ list) × SiteLaws (park_of file) k
+Says (by_table_case file k list) = (words (bill_by_table (park_of file) k) ≡ list) × SiteLaws (park_of file) k
+Says (refused_case file number place) =
+    (refusal file ≡ some (number, place)) × RefusedLaws file (some (number, place))
+Says (active_case file k wp) =
+    IsAccepted file × ((active_net (touching k (park_of file)) ≡ wp) × AcceptedLaws file k)
 Says (tangent_case wq wp tg) = tangent wp wq ≡ tg
 Says (estimate_case tg wp out) = estimated_out tg wp ≡ out
 Says (surcharge_case tg pc p2) = (surcharge pc tg ≡ p2) × (surcharge_by_table pc tg ≡ p2)
@@ -315,7 +375,10 @@ Says (balance_case file energy measured balanced uncut) =
     × (Whether uncut (AllZero (park_of file) (numbers file) 4)
     × (Measured (park_of file)
     → Balance (park_of file) (numbers file)
-    × ((before : List ℕ) → bill_numbers * (park_of file).header.sites ≤ length before → Balance (park_of file) (in_list (list_after file before))))))))
+    × (((before : List ℕ) → bill_numbers * (park_of file).header.sites ≤ length before → Balance (park_of file) (in_list (list_after file before)))
+    × ((site : ℕ) (bills : ℕ → ℕ → ℕ)
+    → EachSite (λ (k : ℕ). (j : ℕ) → bills k j ≡ with_numbers file site (reply_numbers (site_outcome file site)) k j) (park_of file).header.sites
+    → Balance (park_of file) bills)))))))
 Says (charges_case file due without_reason within) =
     IsAccepted file
     × (Measured (park_of file)

@@ -5,4 +5,5 @@ pub mod Inner
 pub mod Answer
 pub mod Laws
 pub mod Parks
+pub mod Instances
 pub mod Cases

@@ -1,5 +1,5 @@
 -- The parks of the cases, as files: park Alder (01, "Park Alder, and its neighbours") and what differs from it in a line or two, parks of
--- version 2 (02, R-5), and parks at the limits of what is due (02, R-7).
+-- version 2 (02, R-5), parks at the limits of what is due (02, R-7), and parks with power stations (02, R-8).
 -- Assumes nothing.
 use Rattle.std.specs.Prelude.{ℕ, List, [], ◌∷◌, ◌++◌, length}
 use Rattle.park_format.specs.Made.{file_from}
@@ -116,24 +116,27 @@ own_short =
 abbrev pub limit_line : List ℕ → ℕ → ℕ → ℕ → ℕ → List ℕ
 limit_line more site mark reactive generated = (0 ∷ site ∷ mark ∷ 669 ∷ 1000 ∷ reactive ∷ generated ∷ 0 ∷ []) ++ more
 
--- Seven sites at the limits of what is due, each with its line, in a given version and month, and what a header and a line of that version have
--- besides. At the first five generation is computed: 10,000 tenths of a kVArh by a Q of 1,000, and 9,999 by a P of 3,333. Of consumption and
+-- Seven sites at the limits of what is due, each with its line, in a given version and month, with a given flag, and what a header and a line of
+-- that version have besides. At the first five generation is computed: 10,000 tenths of a kVArh by a Q of 1,000, and 9,999 by a P of 3,333. Of consumption and
 -- generation there is too little of the first, of the second, of none, and of both; site 5 has enough of both, but a power below 16. At the last
 -- two it is metered: site 6 generates 1,000 kVArh and consumes nothing, site 7 consumes 1,000 and generates 999.
-abbrev pub limits_with : ℕ → ℕ → List ℕ → List ℕ
-limits_with version month more =
+abbrev pub limits_with : ℕ → ℕ → ℕ → List ℕ → List ℕ
+limits_with version month flag more =
     file_from
     (park_mark ∷ version ∷ month ∷ 7 ∷ 7 ∷ 500000 ∷ 1 ∷ more)
-    ((16 ∷ 1 ∷ 1000 ∷ 0 ∷ 100 ∷ []) ∷ (16 ∷ 1 ∷ 0 ∷ 3333 ∷ 100 ∷ []) ∷ (16 ∷ 1 ∷ 1000 ∷ 0 ∷ 100 ∷ []) ∷ (16 ∷ 1 ∷ 0 ∷ 3333 ∷ 100 ∷ []) ∷ (15 ∷ 1 ∷ 1000 ∷ 0 ∷ 100 ∷ []) ∷ (16 ∷ 1 ∷ 0 ∷ 0 ∷ 100 ∷ []) ∷ (16 ∷ 1 ∷ 0 ∷ 0 ∷ 100 ∷ []) ∷ [])
+    ((16 ∷ flag ∷ 1000 ∷ 0 ∷ 100 ∷ []) ∷ (16 ∷ flag ∷ 0 ∷ 3333 ∷ 100 ∷ []) ∷ (16 ∷ flag ∷ 1000 ∷ 0 ∷ 100 ∷ []) ∷ (16 ∷ flag ∷ 0 ∷ 3333 ∷ 100 ∷ []) ∷ (15 ∷ flag ∷ 1000 ∷ 0 ∷ 100 ∷ []) ∷ (16 ∷ flag ∷ 0 ∷ 0 ∷ 100 ∷ []) ∷ (16 ∷ flag ∷ 0 ∷ 0 ∷ 100 ∷ []) ∷ [])
     (limit_line more 1 1 999 0 ∷ limit_line more 2 1 1000 0 ∷ limit_line more 3 1 1000 0 ∷ limit_line more 4 1 999 0 ∷ limit_line more 5 1 1000 0 ∷ limit_line more 6 3 0 1000 ∷ limit_line more 7 3 1000 999 ∷ [])
     []
 
--- in version 1, and in version 2
+-- in version 1, in version 2, and there as power stations
 abbrev pub limits : ℕ → List ℕ
-limits month = limits_with 1 month []
+limits month = limits_with 1 month 1 []
 
 abbrev pub limits_second : ℕ → List ℕ
-limits_second month = limits_with 2 month (0 ∷ [])
+limits_second month = limits_with 2 month 1 (0 ∷ [])
+
+abbrev pub limits_stations : ℕ → List ℕ
+limits_stations month = limits_with 2 month 3 (0 ∷ [])
 
 -- one such site, with a given power, Q, P, D and WQ
 abbrev pub one_limit : ℕ → ℕ → ℕ → ℕ → ℕ → List ℕ
@@ -142,4 +145,32 @@ one_limit power compensation motors eerp reactive =
     (park_mark ∷ 1 ∷ 4 ∷ 1 ∷ 1 ∷ 500000 ∷ 1 ∷ [])
     ((power ∷ 1 ∷ compensation ∷ motors ∷ 100 ∷ []) ∷ [])
     ((0 ∷ 1 ∷ 1 ∷ eerp ∷ 1000 ∷ reactive ∷ 0 ∷ 0 ∷ []) ∷ [])
+    []
+
+-- four sites with the four flags, alike but for a generator at the last, each with its line: without devices and with them, and a station without
+-- devices and with them
+abbrev pub four_flags : List ℕ
+four_flags =
+    file_from
+    (park_mark ∷ 2 ∷ 4 ∷ 4 ∷ 4 ∷ 500000 ∷ 1 ∷ 1 ∷ [])
+    ((16 ∷ 0 ∷ 0 ∷ 0 ∷ 100 ∷ []) ∷ (16 ∷ 1 ∷ 0 ∷ 0 ∷ 100 ∷ []) ∷ (16 ∷ 2 ∷ 0 ∷ 0 ∷ 100 ∷ []) ∷ (16 ∷ 3 ∷ 0 ∷ 0 ∷ 100 ∷ []) ∷ [])
+    (limit_line (0 ∷ []) 1 3 2000 1000 ∷ limit_line (0 ∷ []) 2 3 2000 1000 ∷ limit_line (0 ∷ []) 3 3 2000 1000 ∷ limit_line (0 ∷ []) 4 3 2000 1000 ∷ [])
+    ((4 ∷ 1000 ∷ []) ∷ [])
+
+-- Alder with WQ 40,000 on line 2, in version 2, of which both sites are stations, the first with devices
+abbrev pub alder_stations : List ℕ
+alder_stations =
+    file_from
+    (park_mark ∷ 2 ∷ 4 ∷ 2 ∷ 3 ∷ 500000 ∷ 200 ∷ 0 ∷ [])
+    ((400 ∷ 3 ∷ 50 ∷ 0 ∷ 0 ∷ []) ∷ (100 ∷ 2 ∷ 0 ∷ 0 ∷ 100 ∷ []) ∷ [])
+    ((0 ∷ 1 ∷ 1 ∷ 669 ∷ 40000 ∷ 30000 ∷ 0 ∷ 0 ∷ 0 ∷ []) ∷ (1 ∷ 2 ∷ 1 ∷ 700 ∷ 10000 ∷ 40000 ∷ 0 ∷ 0 ∷ 0 ∷ []) ∷ (0 ∷ 2 ∷ 0 ∷ 669 ∷ 5000 ∷ 0 ∷ 0 ∷ 0 ∷ 0 ∷ []) ∷ [])
+    []
+
+-- one site with a given flag, Q and P, in a given version, whose header and line have what is given besides
+abbrev pub one_flag : ℕ → ℕ → ℕ → ℕ → List ℕ → List ℕ
+one_flag version flag compensation motors more =
+    file_from
+    (park_mark ∷ version ∷ 4 ∷ 1 ∷ 1 ∷ 500000 ∷ 1 ∷ more)
+    ((16 ∷ flag ∷ compensation ∷ motors ∷ 100 ∷ []) ∷ [])
+    (limit_line more 1 1 2000 0 ∷ [])
     []

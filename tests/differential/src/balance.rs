@@ -5,7 +5,8 @@
 //! such line has two flows, one for each end. Then the settled losses of all sites less their
 //! cuts are the energy at the network, what comes in less what goes back. If besides no
 //! site is cut at zero and every site's consumption charge is due (02, R-7), the printed consumption
-//! charges differ from the exact price of that energy by half a kopeck per site at most.
+//! charges differ from the exact price of that energy by half a kopeck per site at most. Power
+//! stations (02, R-8) are sites like the others here.
 
 use crate::due::due;
 use crate::expect::{CONSUMPTION, CUT, GENERATION, PC, SETTLED, TANGENT};

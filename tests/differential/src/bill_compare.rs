@@ -1,6 +1,7 @@
 //! The bills of one file by one way to the surcharge (02, R-6), asked of the calculator and of the
 //! product: the two billing calls with sites and list lengths on both sides of what is right, the
-//! loss balance, and the bills of before. The calculator knows the formula alone.
+//! loss balance, the bills of before, and those with every station's mark turned.
+//! The calculator knows the formula alone.
 
 use crate::balance::balance;
 use crate::calculator::{Bill, Refusal};
@@ -32,8 +33,10 @@ impl Tester<'_> {
             self.compare_balance(way, accepted, bills);
             self.same_bills_as_before(way, &accepted.before_tangents, bills);
             self.same_but_not_due(way, &accepted.before_due, bills);
+            self.same_but_stations(way, &accepted.park, &accepted.before_stations, bills);
         }
         self.same_without_generators(way, &accepted.park, &at_once);
+        self.same_bills_turned(way, file, &accepted.park, &at_once);
         self.coverage.balance(balance(&accepted.park, &at_once));
     }
 

@@ -2,7 +2,7 @@
 //! file (02, R-1) that a run must reach; the ends of lines (02, R-2) that it must meet in files and
 //! in lists; and the high tangents (02, R-4) that its generated files and lists must meet; each with
 //! its name in the coverage. Those of generators (02, R-5) are in generator_branches.rs, those of what
-//! is due (02, R-7) in due_branches.rs.
+//! is due (02, R-7) in due_branches.rs, those of power stations (02, R-8) in station_branches.rs.
 
 macro_rules! branches {
     ($kind:ident, $names:ident: $($branch:ident $name:literal,)*) => {
@@ -36,8 +36,8 @@ branches! {
     LossesCut "step 5: site cut at zero",
     LossesCutOnly "step 5: site cut, consumption not",
     ConsumptionCutOnly "step 5: consumption cut, site not",
-    FlagZero "step 6: flag 0",
-    FlagZeroMetered "step 6: flag 0, though readings exist",
+    FlagZero "step 6: no 1 in the flag",
+    FlagZeroMetered "step 6: no 1 in the flag, though readings exist",
     Metered "step 6: metered WG",
     MeteredAtNight "step 6: metered WN",
     MeteredCut "step 6: metered, cut",

@@ -1,5 +1,5 @@
-//! Deliberate breaches of rules 1 to 19, 23 and 24 (01, "Where each thing is checked"; 02, R-2), each
-//! with the number and place it must be refused with; those that R-5 brought are in
+//! Deliberate breaches of rules 1 to 19, 23 and 24 (01, "Where each thing is checked"; 02, R-2 and
+//! R-8), each with the number and place it must be refused with; those that R-5 brought are in
 //! generator_breaches.rs. They fit any accepted park; a breach is a few bytes set, or another length,
 //! so that nothing here goes through the calculator.
 
@@ -115,12 +115,10 @@ pub fn of_site(park: &Park, site: usize) -> Vec<Breach> {
             vec![(start + 4, 1, flag), (start + 5, 2, compensation), (start + 7, 2, motors)];
         Breach::new(12, site, patches)
     };
-    vec![
+    let mut breaches = vec![
         field(10, 0, 4, 0),
         field(10, 0, 4, 1_000_001),
         field(10, 0, 4, 0xFFFF_FFFF),
-        field(11, 4, 1, 2),
-        field(11, 4, 1, 255),
         devices(1, 20_001, 0),
         devices(1, 0, 20_001),
         devices(1, 0xFFFF, 20_000),
@@ -129,7 +127,19 @@ pub fn of_site(park: &Park, site: usize) -> Vec<Breach> {
         devices(0, 256, 256),
         field(13, 9, 2, 1_001),
         field(13, 9, 2, 0xFFFF),
-    ]
+    ];
+    let wrong_flags = match park.version {
+        Version::One => vec![2, 3, 4, 255],
+        Version::Two => vec![4, 5, 6, 7, 16, 130, 255],
+    };
+    breaches.extend(wrong_flags.into_iter().map(|flag| field(11, 4, 1, flag)));
+    if park.version == Version::Two {
+        breaches.extend(
+            [(2, 1, 0), (2, 0, 1), (2, 256, 256), (3, 20_001, 0), (3, 0, 20_001)]
+                .map(|(flag, compensation, motors)| devices(flag, compensation, motors)),
+        );
+    }
+    breaches
 }
 
 /// Rules 14 to 18, 23 and 24 at one line.

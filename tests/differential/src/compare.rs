@@ -9,6 +9,7 @@ use crate::coverage::Coverage;
 use crate::failures::{Case, Failures};
 use crate::former;
 use crate::former_due;
+use crate::former_stations;
 use crate::former_tangents;
 use crate::park::Park;
 use crate::product::{Product, Reply, WAYS};
@@ -41,6 +42,8 @@ pub struct Accepted {
     pub before_tangents: Vec<Bill>,
     /// The bills of before R-7.
     pub before_due: Vec<Bill>,
+    /// The bills of before R-8, without marks.
+    pub before_stations: Vec<Bill>,
 }
 
 pub fn reply_to<T>(answer: &Result<T, Refusal>) -> Reply {
@@ -134,13 +137,16 @@ impl<'p> Tester<'p> {
         }
         let before_tangents = former_tangents::bills(&park);
         let before_due = former_due::bills(&park);
-        Ok(Accepted { park, bills, before_tangents, before_due })
+        let before_stations = former_stations::bills(&park);
+        Ok(Accepted { park, bills, before_tangents, before_due, before_stations })
     }
 
     fn compare_check(&mut self, file: &[u8], expected: &Result<Accepted, Refusal>) {
         let reply = self.product.check(file);
         self.same(format_args!("check"), reply_to(expected), reply);
         self.same_as_before(former::of_file(file), reply);
+        self.same_reply_without_marks(former_stations::of_file(file), reply);
+        self.same_reply_turned(file, reply);
     }
 
     /// Ends the work on a file or list: one with differences is counted, and told of.

@@ -1,8 +1,8 @@
 //! How often each refusal of a file and each branch of 01's steps was reached; shape_coverage.rs
 //! counts for shapes and limits, list_coverage.rs for the lists of 02, ends_coverage.rs for the ends
 //! of lines, marks_coverage.rs for their marks, tangents_coverage.rs for high tangents,
-//! generators_coverage.rs for generators, and due_coverage.rs for what is due. A run in which one was
-//! never reached has shown too little, and fails.
+//! generators_coverage.rs for generators, due_coverage.rs for what is due, and stations_coverage.rs for
+//! power stations. A run in which one was never reached has shown too little, and fails.
 
 use crate::balance::Balance;
 use crate::branches::{Branch, NAMES};
@@ -15,6 +15,7 @@ use crate::list_coverage::ListCoverage;
 use crate::marks_coverage::MarksCoverage;
 use crate::park::{Line, Park};
 use crate::rules::accepted_park;
+use crate::stations_coverage::StationsCoverage;
 use crate::steps::{excess, half, Consumption, Generation, Source, Working, MOST_TANGENT};
 use crate::tangents_coverage::TangentCounts;
 use crate::touching::Lines;
@@ -33,13 +34,15 @@ pub struct Coverage {
     pub ends: EndsCoverage,
     pub lists: ListCoverage,
     /// Marks in generated files and lists.
-    pub marks: MarksCoverage,
+    marks: MarksCoverage,
     /// High tangents in generated files and lists.
-    pub tangents: ByKind<TangentCounts>,
+    tangents: ByKind<TangentCounts>,
     /// Generators in generated files.
     generators: GeneratorsCoverage,
     /// What is due in generated files and lists.
-    pub due: ByKind<DueCounts>,
+    due: ByKind<DueCounts>,
+    /// Power stations in generated files, and flags in generated lists.
+    stations: StationsCoverage,
 }
 
 impl Coverage {
@@ -53,6 +56,7 @@ impl Coverage {
             tangents: ByKind::default(),
             generators: GeneratorsCoverage::default(),
             due: ByKind::default(),
+            stations: StationsCoverage::default(),
         }
     }
 
@@ -72,6 +76,15 @@ impl Coverage {
         self.tangents.file(&answer);
         self.generators.file(file, &answer);
         self.due.file(&answer);
+        self.stations.file(file, &answer);
+    }
+
+    /// Counts a generated list.
+    pub fn generated_list(&mut self, numbers: &[u32]) {
+        self.marks.list(numbers);
+        self.tangents.list(numbers);
+        self.due.list(numbers);
+        self.stations.refused.list(numbers);
     }
 
     pub fn site(&mut self, park: &Park, work: &Working) {
@@ -79,11 +92,15 @@ impl Coverage {
         self.flows(&work.lines, &work.consumption);
         self.generation(&work.lines, &work.generation);
         self.reason(work);
-        if work.due.generation {
+        let station = work.site.is_station();
+        if work.due.generation && !station {
             self.generation_charge(work, park.price as i128);
         }
         if work.due.consumption {
             self.consumption_charge(work, park.price as i128);
+        }
+        if work.due.consumption && !station {
+            self.surcharge(work);
         }
         self.discount(work);
     }
@@ -174,13 +191,17 @@ impl Coverage {
         }
     }
 
-    /// Steps 8 and 10, where Pc is due.
+    /// Step 8, where Pc is due.
     fn consumption_charge(&mut self, work: &Working, price: i128) {
+        self.count(Branch::ChargeHalf, half(work.consumption.losses.max(0) * price, 10_000_000));
+    }
+
+    /// Step 10, where P2 is due.
+    fn surcharge(&mut self, work: &Working) {
         let money = &work.charges;
         let charged = money.consumption > 0;
         let excess = excess(work.consumption.tangent);
         let surcharge = money.consumption * excess * excess;
-        self.count(Branch::ChargeHalf, half(work.consumption.losses.max(0) * price, 10_000_000));
         self.count(Branch::SurchargeNone, excess == 0 && charged);
         self.count(Branch::Surcharge, money.surcharge > 0);
         self.count(Branch::SurchargeHalf, excess > 0 && half(surcharge, 1_000_000));
@@ -217,6 +238,7 @@ impl Coverage {
         let mut missing = Vec::new();
         let lines = self.ends.counts("file").chain(self.lists.counts()).chain(self.marks.counts());
         let later = self.tangents.counts().chain(self.generators.counts()).chain(self.due.counts());
+        let later = later.chain(self.stations.counts());
         for (name, count) in refusals.chain(branches).chain(lines).chain(later) {
             println!("{count:>10}  {name}");
             if count == 0 {

@@ -1,6 +1,6 @@
 //! Damaged files, made from an accepted one: bits turned, fields set past their limits, other ends of
 //! lines, other lengths, random bytes, and breaches of one or two rules at any place. What only R-5
-//! (02) can damage is in generator_damage.rs.
+//! (02) can damage is in generator_damage.rs, and the flags of sites are in station_damage.rs.
 
 use crate::breaches::{of_header, of_inputs, of_line, of_site, Breach, FILE_RULES};
 use crate::generator_breaches::of_generator;
@@ -8,6 +8,7 @@ use crate::generator_damage::{damage_generators, other_version};
 use crate::layout::Version;
 use crate::park::Park;
 use crate::random::Random;
+use crate::station_damage::damage_flags;
 
 const MOST_BYTES: usize = 70_000;
 
@@ -16,6 +17,10 @@ pub fn random_damage(random: &mut Random, park: &Park) -> Vec<u8> {
     let mut file = park.to_file();
     if park.version == Version::Two && random.chance(40) {
         damage_generators(random, park, &mut file);
+        return file;
+    }
+    if random.chance(12) {
+        damage_flags(random, park, &mut file);
         return file;
     }
     match random.index(14) {

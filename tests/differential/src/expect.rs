@@ -1,6 +1,7 @@
 //! Expected answers written by hand, held against the calculator as well as against the product.
 
-use crate::calculator::{bill_park, bill_site, check, printed, Bill, Refusal};
+use crate::balance::balance;
+use crate::calculator::{bill_park, bill_site, bills, check, printed, Bill, Refusal};
 use crate::compare::Tester;
 use crate::park::Park;
 use crate::product::{Reply, UNWRITTEN, WAYS};
@@ -90,4 +91,24 @@ pub fn expect_check(tester: &mut Tester, name: &str, file: &[u8], refusal: Optio
 pub fn expect_reply(tester: &mut Tester, name: &str, file: &[u8], refusal: Option<(u64, u64)>) {
     expect_check(tester, name, file, refusal);
     tester.print(name, file);
+}
+
+/// Compares what demand 3 comes to in a park of two sites: by the calculator, and by the product's bills
+/// either way. Expected are the energy, both settled and at the network, whether the charges are asked
+/// for, and how far they are from its price, in ten-millionths of a kopeck.
+pub fn expect_balance(tester: &mut Tester, name: &str, park: &Park, expected: (i128, bool, i128)) {
+    let (energy, asked, difference) = expected;
+    let right = Some((energy, energy, asked, difference));
+    let got = |bills: &[Bill]| {
+        balance(park, bills)
+            .map(|one| (one.settled, one.network, one.charges_asked, one.difference))
+    };
+    tester.same(format_args!("{name}, calculator"), right, got(&bills(park)));
+    let file = park.to_file();
+    for way in WAYS {
+        let mut list = [UNWRITTEN; 22];
+        tester.product.bill_park(way, &file, &mut list);
+        tester.same(format_args!("{name} {way}"), right, got(list.as_chunks().0));
+    }
+    tester.file(name, &file);
 }

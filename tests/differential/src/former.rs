@@ -6,7 +6,9 @@ use crate::calculator::Refusal;
 use crate::compare::{reply_to, Tester};
 use crate::park::Line;
 use crate::product::Reply;
-use crate::rules::{park_of_file, park_of_list, refuse_if};
+use crate::rules::{park_of_file, park_of_list, refuse_if, ChangedRules, RULES};
+
+const END_RULES: ChangedRules = ChangedRules { ends: check_ends, ..RULES };
 
 /// The former rule 14: a line goes upwards or back to the network, and no end is above s.
 fn check_ends(line: &Line, place: usize, sites: usize) -> Result<(), Refusal> {
@@ -18,12 +20,12 @@ fn check_ends(line: &Line, place: usize, sites: usize) -> Result<(), Refusal> {
 
 /// What was said of a file.
 pub fn of_file(file: &[u8]) -> Result<(), Refusal> {
-    park_of_file(file, check_ends).map(|_| ())
+    park_of_file(file, &END_RULES).map(|_| ())
 }
 
 /// What was said of a list, for a buffer that is long enough.
 pub fn of_list(numbers: &[u32]) -> Result<(), Refusal> {
-    park_of_list(numbers, check_ends).map(|_| ())
+    park_of_list(numbers, &END_RULES).map(|_| ())
 }
 
 impl Tester<'_> {

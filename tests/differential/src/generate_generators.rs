@@ -1,8 +1,10 @@
 //! Random parks of version 2 (02, R-5), made from those of version 1: some lines get a meter of
 //! active generation, and some sites with devices get generators; now and then WP0 of such a site is
-//! brought near 0, or its tangent near a limit.
+//! brought near 0, or its tangent near a limit. The marks of stations come last, in
+//! generate_stations.rs.
 
 use crate::generate::{random_high_tangent, random_park, random_reading, Scale, SCALES};
+use crate::generate_stations::mark_stations;
 use crate::layout::Version;
 use crate::park::{Generator, Line, Park, Site, ACTIVE_GENERATED_METER};
 use crate::random::Random;
@@ -20,6 +22,7 @@ pub fn random_park_of(random: &mut Random, version: Version) -> Park {
         if !park.generators.is_empty() && random.chance(50) {
             aim(random, &mut park);
         }
+        mark_stations(random, &mut park.sites);
     }
     park
 }

@@ -72,19 +72,24 @@ pub fn of_generator(park: &Park, place: usize) -> Vec<Breach> {
     let site = |site: u64| Breach::new(26, place, vec![(start, 1, site)]);
     let output = |output: u64| Breach::new(27, place, vec![(start + 1, 4, output)]);
     let mut breaches = vec![site(0), site(next), site(255)];
-    let flagless = park.sites.iter().position(|site| site.flag == 0);
+    let flagless = park.sites.iter().position(|site| !site.has_devices());
     breaches.extend(flagless.map(|index| site(index as u64 + 1)));
     breaches.extend([10_000_001, 0x100_0000, 0xFFFF_FFFF].map(output));
     breaches.extend(of_flag(park, place));
     breaches
 }
 
-/// Rule 26 at one generator, as its site has no devices any more; none if an earlier generator is
-/// at the same site.
-fn of_flag(park: &Park, place: usize) -> Option<Breach> {
+/// Rule 26 at one generator, as its site, a station or not (02, R-8), has no devices any more; none
+/// if an earlier generator is at the same site.
+fn of_flag(park: &Park, place: usize) -> Vec<Breach> {
     let site = park.generators[place - 1].site;
-    let earlier = park.generators[..place - 1].iter().any(|one| one.site == site);
+    if park.generators[..place - 1].iter().any(|one| one.site == site) {
+        return Vec::new();
+    }
     let start = park.version.site_offset(site as usize);
-    let patches = vec![(start + 4, 1, 0), (start + 5, 2, 0), (start + 7, 2, 0)];
-    (!earlier).then(|| Breach::new(26, place, patches))
+    let breach = |flag| {
+        let patches = vec![(start + 4, 1, flag), (start + 5, 2, 0), (start + 7, 2, 0)];
+        Breach::new(26, place, patches)
+    };
+    [0, 2].map(breach).to_vec()
 }

@@ -51,20 +51,24 @@ pub fn small_second(
     second(Park { price, hours: 3, sites, lines, ..alder() }, generators)
 }
 
-/// The five sites, the last without devices, and five generators, two of them at one site.
+/// The five sites, the last without devices, the third and the last stations, and five generators,
+/// two of them at one site.
 pub fn five_with_generators() -> Park {
     let mut park = five_sites();
-    park.sites[4] = site([400, 0, 0, 0, 100]);
+    park.sites[2].flag = 3;
+    park.sites[4] = site([400, 2, 0, 0, 100]);
     for line in park.lines.iter_mut().step_by(2) {
         (line.meters, line.active_generated) = (line.meters | 8, 700);
     }
     second(park, &[[2, 3_000], [4, 0], [2, 500], [1, 10_000_000], [3, 256]])
 }
 
-/// The largest park there is in version 2; its third site has no devices.
+/// The largest park there is in version 2; its third site has no devices, and every fourth is a
+/// station.
 pub fn largest_with_generators() -> Park {
     let mut park = largest_park();
     park.sites[2].flag = 0;
+    park.sites.iter_mut().step_by(4).for_each(|site| site.flag |= 2);
     for (index, line) in park.lines.iter_mut().enumerate() {
         let metered = index % 4 != 3;
         line.meters |= 8 * metered as u32;

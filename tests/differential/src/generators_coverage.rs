@@ -2,6 +2,7 @@
 //! ones is here, of the refused ones in refused_coverage.rs. The named cases and the sweeps do not
 //! count: the generated cases have to meet all of it by themselves.
 
+use crate::due::Due;
 use crate::generator_branches::{Generators, GENERATORS_NAMES};
 use crate::layout::Version;
 use crate::park::{Generator, Line, Park};
@@ -117,8 +118,10 @@ impl GeneratorsCoverage {
         self.count(Generators::Estimated, work.lines.transits.iter().any(flow));
         let metered = lines.any(|line| line.measures_active_generated());
         self.count(Generators::MeteredAtNight, at_night && metered);
-        self.count(Generators::DueConsumption, work.due.consumption && !work.due.generation);
-        self.count(Generators::DueGeneration, work.due.generation && !work.due.consumption);
+        let Due { consumption, generation, .. } = work.due;
+        let site = !work.site.is_station();
+        self.count(Generators::DueConsumption, site && consumption && !generation);
+        self.count(Generators::DueGeneration, site && generation && !consumption);
         self.count(Generators::Surcharge, work.charges.surcharge != former.charges.surcharge);
     }
 

@@ -1,5 +1,6 @@
-//! How each version lays out the park file (01, "The park file"; 02, R-5): the lengths of its
-//! records, and where they begin. Sites, lines and generators are counted from 1.
+//! How each version lays out the park file (01, "The park file"; 02, R-5 and R-8): the lengths of
+//! its records, where they begin, and the marks and flags it has. Sites, lines and generators are
+//! counted from 1.
 
 /// A file of either version has so many bytes at least (rule 1).
 pub const LEAST_BYTES: usize = 14;
@@ -53,6 +54,14 @@ impl Version {
         match self {
             Version::One => 7,
             Version::Two => 15,
+        }
+    }
+
+    /// The largest flag that a site may have (02, R-8).
+    pub fn most_flag(self) -> u32 {
+        match self {
+            Version::One => 1,
+            Version::Two => 3,
         }
     }
 

@@ -1,6 +1,6 @@
 //! Damaged lists (02, R-1), made from an accepted one: numbers set to their limits, past them and
-//! to what their fields would narrow, other ends of lines, numbers dropped, added or exchanged,
-//! other counts of sites and lines, random numbers, and breaches of one or two rules.
+//! to what their fields would narrow, other ends of lines, other flags, numbers dropped, added or
+//! exchanged, other counts of sites and lines, random numbers, and breaches of one or two rules.
 
 use crate::fields::{field_at, FIELDS};
 use crate::list::{line_start, site_start};
@@ -11,7 +11,7 @@ use crate::random::Random;
 /// A list made from this park's; it may happen to be accepted still.
 pub fn random_list_damage(random: &mut Random, park: &Park) -> Vec<u32> {
     let mut numbers = park.to_list();
-    match random.index(18) {
+    match random.index(19) {
         0 => numbers.truncate(random.index(numbers.len())),
         1 => numbers.truncate(random.index(6)),
         2 => {
@@ -31,6 +31,7 @@ pub fn random_list_damage(random: &mut Random, park: &Park) -> Vec<u32> {
         8 => random_stretch(random, &mut numbers),
         9 => breaches(random, park, &mut numbers),
         10 | 11 => set_ends(random, park, &mut numbers),
+        12 => set_flags(random, park, &mut numbers),
         _ => {
             for _ in 0..random.between(1, 2) {
                 change_number(random, park, &mut numbers);
@@ -78,6 +79,19 @@ fn set_ends(random: &mut Random, park: &Park, numbers: &mut [u32]) {
         }
         if random.chance(30) {
             numbers[start + 2] = random.pick(&[4, 5, 8, 255, 256]);
+        }
+    }
+}
+
+/// A few sites with flags that version 2 has (02, R-8), or near them, some of them too wide for a
+/// byte, and some without Q and P.
+fn set_flags(random: &mut Random, park: &Park, numbers: &mut [u32]) {
+    for _ in 0..random.between(1, 2) {
+        let start = site_start(random.index(park.sites.len()) + 1);
+        let wide = random.pick(&[0, 0, 0, 256, 0x1_0000, 0x8000_0000]);
+        numbers[start + 1] = random.pick(&[2, 2, 3, 3, 4, 255]) + wide;
+        if random.chance(50) {
+            numbers[start + 2..start + 4].fill(0);
         }
     }
 }

@@ -22,9 +22,7 @@ pub fn run(tester: &mut Tester, seed: u64, lists: u64, sample: u64) {
         }
         tester.list(&format!("seed {seed}, damaged list {index}"), &damaged);
         for numbers in [&numbers, &damaged] {
-            tester.coverage.marks.list(numbers);
-            tester.coverage.tangents.list(numbers);
-            tester.coverage.due.list(numbers);
+            tester.coverage.generated_list(numbers);
         }
     }
 }

@@ -1,5 +1,5 @@
 //! The differential test program of the park bill: a calculator written from papers 01 and 02 (R-1
-//! to R-7) alone, held against the product's six calls and its program parkbill. Every file is
+//! to R-8) alone, held against the product's six calls and its program parkbill. Every file is
 //! billed by both ways to the surcharge; the calculator works it out by the formula.
 //!
 //! - `park_tests` runs the named cases, the example files, the refusals, the sweeps and the generated
@@ -35,10 +35,12 @@ mod fields;
 mod former;
 mod former_due;
 mod former_generators;
+mod former_stations;
 mod former_tangents;
 mod generate;
 mod generate_due;
 mod generate_generators;
+mod generate_stations;
 mod generated_run;
 mod generator_branches;
 mod generator_breaches;
@@ -64,22 +66,26 @@ mod mock_calls;
 mod mock_due;
 mod mock_encode;
 mod mock_ends;
+mod mock_flags;
 mod mock_generators;
 mod mock_last;
 mod mock_layout;
 mod mock_marks;
 mod mock_one_way;
+mod mock_stations;
 mod mock_steps;
 mod mock_surcharge;
 mod mock_tangents;
 mod named;
 mod named_due;
 mod named_ends;
+mod named_flags;
 mod named_generators;
 mod named_lists;
 mod named_marks;
 mod named_second;
 mod named_second_marks;
+mod named_stations;
 mod named_struck;
 mod named_tangents;
 mod park;
@@ -92,11 +98,18 @@ mod rules;
 mod self_test;
 mod shape_coverage;
 mod shapes;
+mod station_branches;
+mod station_damage;
+mod station_sweeps;
+mod stations_coverage;
+mod stations_refused;
+mod stations_table;
 mod steps;
 mod sweeps;
 mod table_sweeps;
 mod tangents_coverage;
 mod touching;
+mod turned_marks;
 
 use std::env;
 use std::fs;

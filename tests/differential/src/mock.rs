@@ -1,10 +1,11 @@
 //! A second path, apart from the calculator, that stands in for the product: it reads raw bytes,
 //! gathers all breaches of 01's table and takes the first. Where it finds the records of either
 //! version is in mock_layout.rs; its rules for the ends of lines are in mock_ends.rs, that for their
-//! marks in mock_marks.rs, those for generators in mock_generators.rs; its steps are in
-//! mock_steps.rs, mock_tangents.rs, mock_active.rs, mock_due.rs and mock_surcharge.rs, its calls in
-//! mock_calls.rs, and its making of files in mock_encode.rs. It can be told to make one mistake,
-//! and, in mock_one_way.rs, to make it by one way to the surcharge alone.
+//! marks in mock_marks.rs, those for the flags of sites in mock_flags.rs, those for generators in
+//! mock_generators.rs; its steps are in mock_steps.rs, mock_tangents.rs, mock_active.rs, mock_due.rs,
+//! mock_surcharge.rs and mock_stations.rs, its calls in mock_calls.rs, and its making of files in
+//! mock_encode.rs. It can be told to make one mistake, and, in mock_one_way.rs, to make it by one way
+//! to the surcharge alone.
 
 use crate::mistakes::Mistake;
 use crate::mock_last::Last;
@@ -50,7 +51,8 @@ impl Mock {
         }
         let mut found = Vec::new();
         for (place, site) in (1..).zip(self.sites(file)) {
-            found.extend(self.site_breaches(site).map(|number| (2, place, number)));
+            let breaches = self.site_breaches(site, self.is_second(file));
+            found.extend(breaches.map(|number| (2, place, number)));
         }
         for (place, line) in (1..).zip(self.lines(file)) {
             let breaches = self.line_breaches(line, file[6], self.is_second(file));
@@ -61,6 +63,7 @@ impl Mock {
             found.extend(breaches.map(|number| (self.generator_stage(number), place, number)));
         }
         let unfed = (1..=file[6]).filter(|site| self.lines(file).all(|line| line[1] != *site));
+        let unfed = unfed.filter(|site| !self.feeds_itself(file, *site));
         let least = if self.makes(Mistake::HighestUnfedSite) { unfed.max() } else { unfed.min() };
         found.extend(least.map(|site| (7, site as u64, 19)));
         match found.into_iter().min_by_key(|(stage, place, _)| (*stage, *place)) {
@@ -118,18 +121,17 @@ impl Mock {
         sound.iter().find(|(_, sound)| !sound).map_or(0, |(number, _)| *number)
     }
 
-    fn site_breaches(&self, site: &[u8]) -> impl Iterator<Item = u64> {
-        let (compensation, motors) = (at(site, 5, 2), at(site, 7, 2));
-        let together = site[4] == 0 && self.makes(Mistake::DevicesRefusedOnlyTogether);
-        let devices = if together { compensation.min(motors) } else { compensation.max(motors) };
-        let most = if site[4] == 0 { 0 } else { 20_000 };
-        let breached = [
-            !(1..=1_000_000).contains(&at(site, 0, 4)),
-            site[4] > 1,
-            devices > most,
-            at(site, 9, 2) > 1_000,
+    fn site_breaches(&self, site: &[u8], second: bool) -> impl Iterator<Item = u64> {
+        let mut rows = [
+            (10, !(1..=1_000_000).contains(&at(site, 0, 4))),
+            (11, self.flag_breached(site[4], second)),
+            (12, self.devices_breached(site)),
+            (13, at(site, 9, 2) > 1_000),
         ];
-        (10..).zip(breached).filter(|(_, breached)| *breached).map(|(number, _)| number)
+        if self.makes(Mistake::FlagAfterDevices) {
+            rows.swap(1, 2);
+        }
+        rows.into_iter().filter(|(_, breached)| *breached).map(|(number, _)| number)
     }
 
     fn line_breaches(&self, line: &[u8], sites: u8, second: bool) -> impl Iterator<Item = u64> {

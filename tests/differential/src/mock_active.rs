@@ -54,6 +54,7 @@ impl Mock {
                 Some(Mistake::FirstGeneratorOnly) if index > 0 => 0,
                 Some(Mistake::LastGeneratorLeftOut) if index + 1 == count => 0,
                 Some(Mistake::OutputAsTwoBytes) => output & 0xFFFF,
+                Some(Mistake::StationOutputIgnored) if self.is_station(file, site) => 0,
                 _ => output,
             };
             tally.generators += !none as i64;
@@ -64,7 +65,7 @@ impl Mock {
         }
         if self.makes(Mistake::GeneratorsForFlaggedSites) {
             for (site, record) in (1..).zip(self.sites(file)) {
-                tallies[site].generators += record[4] as i64;
+                tallies[site].generators += (record[4] % 2) as i64;
             }
         }
     }

@@ -13,16 +13,19 @@ type Alone = [(Mistake, Mistake)];
 const OF_SITE: &Alone = &[
     (Mistake::FormerActiveOfSite, Mistake::FormerActive),
     (Mistake::FormerDueOfSite, Mistake::FormerDue),
+    (Mistake::MarkIgnoredOfSite, Mistake::MarkIgnored),
     (Mistake::EntryOneMoreOfSite, Mistake::EntryOneMore),
 ];
 const IN_PARK: &Alone = &[
     (Mistake::FormerActiveInPark, Mistake::FormerActive),
     (Mistake::FormerDueInPark, Mistake::FormerDue),
+    (Mistake::MarkIgnoredInPark, Mistake::MarkIgnored),
     (Mistake::EntryOneMoreInPark, Mistake::EntryOneMore),
 ];
 const PRINTED: &Alone = &[
     (Mistake::FormerActivePrinted, Mistake::FormerActive),
     (Mistake::FormerDuePrinted, Mistake::FormerDue),
+    (Mistake::MarkIgnoredPrinted, Mistake::MarkIgnored),
 ];
 
 impl Mock {

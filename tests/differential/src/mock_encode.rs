@@ -84,7 +84,7 @@ impl Mock {
     fn list_refusal(&self, numbers: &[u32], file: &[u8], length: usize) -> (u64, u64) {
         let refusal = match self.makes(Mistake::MarksOfVersionTwoMade) {
             true => Mock::new(Some(Mistake::MarksOfVersionTwoInOne)).refusal(file),
-            false => self.former_if(Mistake::FormerEndsMade, self.refusal(file)),
+            false => self.former_if(Mistake::FormerEndsMade, self.refusal_made(file)),
         };
         let wrong_count = numbers.len() != self.right_count(numbers);
         let mut short = length < file.len();
@@ -110,8 +110,10 @@ impl Mock {
         let sites = 11 * file[6] as usize;
         let (site_records, line_records) = file[14..].split_at_mut(sites);
         for site in site_records.chunks_exact_mut(11) {
-            if self.makes(Mistake::MotorsBeforeCompensation) {
-                site[5..9].rotate_left(2);
+            match self.0 {
+                Some(Mistake::MotorsBeforeCompensation) => site[5..9].rotate_left(2),
+                Some(Mistake::MarkDropped) => site[4] %= 2,
+                _ => {}
             }
         }
         for line in line_records.chunks_exact_mut(21) {

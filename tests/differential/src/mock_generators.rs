@@ -54,7 +54,8 @@ impl Mock {
     pub fn generator_breaches(&self, file: &[u8], generator: &[u8]) -> impl Iterator<Item = u64> {
         let last = file[6] as usize;
         let number = generator[0] as usize;
-        let flagless = self.sites(file).nth(number.max(1) - 1).is_some_and(|site| site[4] == 0);
+        let site = self.sites(file).nth(number.max(1) - 1);
+        let flagless = site.is_some_and(|site| self.refuses_generators(site[4]));
         let wrong_site = match self.0 {
             Some(Mistake::GeneratorOfNetworkAccepted) if number == 0 => false,
             Some(Mistake::GeneratorAboveSitesAccepted) if number == last + 1 => false,
@@ -74,6 +75,10 @@ impl Mock {
             _ => 10_000_000,
         };
         let mut rows = [(26, wrong_site), (27, output > most)];
+        let at_station = site.is_some_and(|site| site[4] == 2);
+        if self.makes(Mistake::GeneratorOfStationTwentySeven) && at_station {
+            rows[0].0 = 27;
+        }
         if self.makes(Mistake::OutputBeforeSite) {
             rows.swap(0, 1);
         }

@@ -1,8 +1,8 @@
 //! The named cases of 01 ("Park Alder, and its neighbours"), starred and unstarred, and a few of
 //! "Shortcuts the annex forbids"; those of 02 are in named_ends.rs, named_marks.rs,
-//! named_tangents.rs (R-4, and the largest Pc for R-6), named_generators.rs and named_due.rs
-//! . Every expected value is written by hand from the paper, and is held against the calculator
-//! as well as against the product.
+//! named_tangents.rs (R-4, and the largest Pc for R-6), named_generators.rs, named_due.rs
+//! and named_stations.rs. Every expected value is written by hand from the paper, and is held
+//! against the calculator as well as against the product.
 
 use crate::balance::balance;
 use crate::compare::Tester;
@@ -14,6 +14,7 @@ use crate::list::site;
 use crate::named_due;
 use crate::named_ends;
 use crate::named_generators;
+use crate::named_stations;
 use crate::named_tangents;
 use crate::park::Park;
 use crate::parks::{alder, alder_cut, one_line, small_park};
@@ -31,6 +32,7 @@ pub fn run(tester: &mut Tester) {
     named_tangents::run(tester);
     named_generators::run(tester);
     named_due::run(tester);
+    named_stations::run(tester);
     forbidden_shortcuts(tester);
     generations(tester);
     extremes(tester);

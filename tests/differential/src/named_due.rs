@@ -3,15 +3,12 @@
 //! expected value is written by hand from the papers, and is held against the calculator as well as
 //! against the product.
 
-use crate::balance::balance;
-use crate::calculator::bills;
 use crate::compare::Tester;
-use crate::expect::{expect_bill, expect_printed};
+use crate::expect::{expect_balance, expect_bill, expect_printed};
 use crate::generator_parks::{generator, second};
 use crate::named_struck;
 use crate::park::Park;
 use crate::parks::small_park;
-use crate::product::{UNWRITTEN, WAYS};
 use crate::steps::Bill;
 
 /// Of a site with h 125, two inputs with D 1,000 and 501, T 1,000,000 and t 1: its power, WQ of the
@@ -161,22 +158,9 @@ fn balances(tester: &mut Tester) {
         ("Power 15", of_five(&[4, 1]), (40_140_000, false, 10_035_000_000_000)),
         ("Neither due", of_five(&[3, 5]), (1_299_000, false, 315_000_000_000)),
     ];
-    for (name, first, (energy, asked, difference)) in cases {
+    for (name, first, expected) in cases {
         for park in [first.clone(), second(first, &[])] {
-            let right = Some((energy, energy, asked, difference));
-            let got = |bills: &[Bill]| {
-                balance(&park, bills)
-                    .map(|one| (one.settled, one.network, one.charges_asked, one.difference))
-            };
-            tester.same(format_args!("{name}, calculator"), right, got(&bills(&park)));
-            let file = park.to_file();
-            for way in WAYS {
-                let mut list = [UNWRITTEN; 22];
-                tester.product.bill_park(way, &file, &mut list);
-                let (of_product, _) = list.as_chunks();
-                tester.same(format_args!("{name} {way}"), right, got(of_product));
-            }
-            tester.file(name, &file);
+            expect_balance(tester, name, &park, expected);
         }
     }
 }

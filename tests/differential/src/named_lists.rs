@@ -1,11 +1,12 @@
 //! Named lists (02, R-1): Alder's, numbers that only 32 bits tell from accepted ones, wrong counts
-//! and buffers; other ends of lines are in named_ends.rs. Every expected answer is written by
-//! hand from the papers, but for the largest file, and is held against the calculator as well as
-//! against the product.
+//! and buffers; other ends of lines are in named_ends.rs, flags in named_flags.rs. Every
+//! expected answer is written by hand from the papers, but for the largest file, and is held against
+//! the calculator as well as against the product.
 
 use crate::calculator::{encode, Refusal};
 use crate::compare::Tester;
 use crate::named_ends;
+use crate::named_flags;
 use crate::parks::{alder, largest_park, one_line, ALDER_FILE};
 use crate::product::Reply;
 
@@ -68,6 +69,7 @@ pub fn run(tester: &mut Tester) {
     wide_lines(tester);
     limits(tester);
     named_ends::lists(tester);
+    named_flags::lists(tester);
     counts(tester);
     orders(tester);
     buffers(tester);

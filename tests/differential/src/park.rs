@@ -1,4 +1,5 @@
-//! The park file (01, "The park file"; 02, R-5): its four records, writing them and reading them.
+//! The park file (01, "The park file"; 02, R-5 and R-8): its four records, writing them and reading
+//! them.
 //!
 //! All numbers are unsigned, lowest byte first. A field is kept in 32 bits, whatever its width in
 //! the file: a list (02, R-1) may hold any such number, and the table must see it whole.
@@ -11,6 +12,11 @@ pub const GENERATED_METER: u32 = 2;
 pub const NIGHT_METER: u32 = 4;
 /// In version 2 only.
 pub const ACTIVE_GENERATED_METER: u32 = 8;
+
+/// What the flag of a site is the sum of: that devices exist, and the mark of a power station.
+pub const DEVICES: u32 = 1;
+/// In version 2 only.
+pub const STATION: u32 = 2;
 
 /// Most hours a month may state, January to December.
 pub const MONTH_HOURS: [u32; 12] = [744, 696, 743, 720, 744, 720, 744, 744, 720, 745, 720, 744];
@@ -50,7 +56,8 @@ pub struct Park {
 pub struct Site {
     /// Permitted power, kW.
     pub power: u32,
-    /// 1 if compensation or generating devices exist, else 0.
+    /// 1 if compensation or generating devices exist, else 0; in version 2 and 2 if it is a power
+    /// station.
     pub flag: u32,
     /// Q, installed compensation, kVAr.
     pub compensation: u32,
@@ -88,6 +95,16 @@ pub struct Generator {
     pub site: u32,
     /// Active generation, kWh.
     pub output: u32,
+}
+
+impl Site {
+    pub fn has_devices(&self) -> bool {
+        self.flag & DEVICES != 0
+    }
+
+    pub fn is_station(&self) -> bool {
+        self.flag & STATION != 0
+    }
 }
 
 impl Line {
@@ -151,6 +168,12 @@ impl Header {
 }
 
 impl Park {
+    /// The site of this number; none for the network, and for one that there is not.
+    pub fn site(&self, number: u32) -> Option<&Site> {
+        let index = number.checked_sub(1)?;
+        self.sites.get(index as usize)
+    }
+
     /// Where the record of a line begins in this park's file.
     pub fn line_offset(&self, line: usize) -> usize {
         self.version.line_offset(self.sites.len(), line)

@@ -3,8 +3,8 @@
 
 use crate::generator_branches::{Refused, REFUSED_NAMES};
 use crate::layout::{Version, GENERATORS_OFFSET};
-use crate::park::{number_at, Generator, Header, Line, Park};
-use crate::rules::{wrong_site, Refusal};
+use crate::park::{number_at, Generator, Header, Line, Park, Site};
+use crate::rules::{wrong_site, Refusal, RULES};
 
 const MOST_READING: u32 = 10_000_000;
 
@@ -86,7 +86,7 @@ impl RefusedCoverage {
     /// A file of version 2 that is refused at a site, a line or a generator.
     fn record(&mut self, park: &Park, refusal: Refusal) {
         let (number, index) = (refusal.number, refusal.place as usize - 1);
-        let wrong = |one: &Generator| wrong_site(one, &park.sites) || one.output > MOST_READING;
+        let wrong = |one: &Generator| wrong_site(one, park, &RULES) || one.output > MOST_READING;
         let some_wrong = park.generators.iter().any(wrong);
         match number {
             10..=13 => self.count(Refused::SiteFirst, some_wrong),
@@ -123,12 +123,13 @@ impl RefusedCoverage {
         let fed = |site| park.lines.iter().any(|line| line.to == site);
         let unfed = (1..=sites).any(|site| !fed(site));
         let above = |one: &Generator| one.output > MOST_READING;
-        let then_site = later.iter().any(|one| wrong_site(one, &park.sites));
+        let then_site = later.iter().any(|one| wrong_site(one, park, &RULES));
         if number == 26 {
             self.count(Refused::Network, one.site == 0);
             self.count(Refused::NextSite, one.site == sites + 1);
             self.count(Refused::FarSite, one.site > sites + 1);
-            self.count(Refused::Flagless, (1..=sites).contains(&one.site));
+            let flagless = |site: &Site| site.flag == 0;
+            self.count(Refused::Flagless, park.site(one.site).is_some_and(flagless));
             self.count(Refused::BothWrong, above(one));
             self.count(Refused::SiteThenOutput, later.iter().any(above));
             self.count(Refused::SiteUnfed, unfed);

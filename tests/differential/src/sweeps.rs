@@ -1,12 +1,14 @@
 //! Sweeps: every value of one thing while the rest stays, in places where a table or a byte may be
 //! wrong at a single value. Those over files of version 2 are in generator_sweeps.rs, and that over
-//! the table of the surcharge is in table_sweeps.rs, those over the limits of step 7 in due_sweeps.rs.
+//! the table of the surcharge is in table_sweeps.rs, those over the limits of step 7 in due_sweeps.rs,
+//! those over power stations in station_sweeps.rs.
 
 use crate::compare::Tester;
 use crate::due_sweeps;
 use crate::generator_sweeps;
 use crate::park::{Park, MONTH_HOURS};
 use crate::parks::{alder, one_line, small_park, with_line};
+use crate::station_sweeps;
 use crate::table_sweeps;
 
 pub fn run(tester: &mut Tester) {
@@ -20,6 +22,7 @@ pub fn run(tester: &mut Tester) {
     generator_sweeps::run(tester);
     table_sweeps::run(tester);
     due_sweeps::run(tester);
+    station_sweeps::run(tester);
 }
 
 /// Park Alder with each byte set to each value.

@@ -1,7 +1,7 @@
 //! How often the generated files and lists met the tangents around 2,000 and above it (02, R-4), in
 //! each step that has a limit of its own for them; in version 2 only sites with a generator (02, R-5)
-//! count. The named cases and the sweeps do not count here:
-//! the generated cases have to meet all of them by themselves.
+//! count, and for step 10 only those that are no power station. The named cases and the sweeps
+//! do not count here: the generated cases have to meet all of them by themselves.
 
 use crate::branches::{Tangents, TANGENTS_NAMES};
 use crate::kinds_coverage::Counts;
@@ -62,7 +62,7 @@ impl TangentCounts {
         let tangent = work.consumption.tangent;
         let (above, most) = (tangent > 2_000, tangent == MOST_TANGENT);
         let estimated = work.lines.transits.iter().any(|line| !line.measures_reactive());
-        let charged = work.charges.consumption > 0;
+        let charged = work.charges.consumption > 0 && !work.site.is_station();
         self.count(Tangents::HighTransit, estimated && above && !most);
         self.count(Tangents::MostTransit, estimated && most);
         self.count(Tangents::HighCut, above && work.consumption.losses < 0);

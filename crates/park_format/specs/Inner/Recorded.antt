@@ -15,7 +15,7 @@ pub record Recorded (p : Park) : Type 0 where
 -- site by site, line by line, generator by generator, the park
 abbrev pub record_rules : Park → List Row
 record_rules p =
-    each site_rules 1 p.sites
+    each (site_rules p.header) 1 p.sites
     ++ (each (line_rules p.header) 1 p.lines
     ++ (each (generator_rules p.header p.sites) 1 p.generators
     ++ each (input_rules p.lines) 1 p.sites))

@@ -8,7 +8,7 @@ returns c =
     let x = c.args.self in
     let at = c.args.at in
     first_stored 4 x.power c.write.ensures
-    (next_stored at 4 1 x.devices c.write-2.ensures
+    (next_stored at 4 1 x.flag c.write-2.ensures
     (next_stored at 5 2 x.compensation c.write-3.ensures
     (next_stored at 7 2 x.motors c.write-4.ensures
     (last_stored 2 x.discount c.write-5.ensures))))
