@@ -77,8 +77,14 @@ fn write_bills<P: Accepted>(
     }
 }
 
-// Bills every site of a park into a list, if it is long enough.
-fn bill_all<P: Accepted>(by: SurchargeBy, park: &P, list: &mut [u64]) -> Result<u64, Refusal>
+// Bills every site of a park into a list, if it is long enough. The sums are worked out in an array that is lent, whatever it holds: code of each version
+// with an array of its own would take the stack of both.
+fn bill_all<P: Accepted>(
+    by: SurchargeBy,
+    park: &P,
+    sums: &mut [SiteSums; walk::PLACES],
+    list: &mut [u64],
+) -> Result<u64, Refusal>
     ensures reply { reply_of result ≡ all_outcome (P.park park.now) list.old }
     ensures written { list.new ≡ all_after (P.park park.now) list.old }
 {
@@ -86,10 +92,10 @@ fn bill_all<P: Accepted>(by: SurchargeBy, park: &P, list: &mut [u64]) -> Result<
     if list.len() < Bill::NUMBERS * sites as usize {
         return Err(Rule::ShortList.at(0));
     }
-    let mut sums = walk::sums(park);
-    walk::tangents(park, &mut sums);
-    walk::after_transits(park, &mut sums);
-    write_bills(by, park, &sums, list);
+    walk::sums(park, sums);
+    walk::tangents(park, sums);
+    walk::after_transits(park, sums);
+    write_bills(by, park, sums, list);
     Ok(u64::from(sites))
 }
 
@@ -110,9 +116,10 @@ pub fn bill_park_by(by: SurchargeBy, file: &[u8], list: &mut [u64]) -> Result<u6
     ensures written { list.new ≡ list_after file.now list.old }
     ensures balance { InBalance file.now list.old list.new }
 {
+    let mut sums = [SiteSums::NONE; walk::PLACES];
     match park_format::open(file)? {
-        Opened::First(park) => bill_all(by, &park, list),
-        Opened::Second(park) => bill_all(by, &park, list),
+        Opened::First(park) => bill_all(by, &park, &mut sums, list),
+        Opened::Second(park) => bill_all(by, &park, &mut sums, list),
     }
 }
 

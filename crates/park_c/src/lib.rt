@@ -111,8 +111,9 @@ fn tell_park(
             0
         }
         Err(refused) => {
+            let number = tell(refused, place);
             *sites = 0;
-            tell(refused, place)
+            number
         }
     }
 }
@@ -172,8 +173,9 @@ pub extern "C" fn park_encode(
             0
         }
         Err(broken) => {
+            let number = tell(broken, place);
             *size = 0;
-            tell(broken, place)
+            number
         }
     }
 }

@@ -26,7 +26,7 @@ module _ (numbers : List ℕ) where
   unfolding list_refusal list_rules rules_with first_broken
   few_refused few = rw (lt-ltb (length numbers) header_fields few)
 
-  list_table : header_fields ≤ length numbers → list_refusal numbers ≡ first_broken (rules_of false (has_wrong_count numbers) (list_park numbers))
+  pub list_table : header_fields ≤ length numbers → list_refusal numbers ≡ first_broken (rules_of false (has_wrong_count numbers) (list_park numbers))
   unfolding list_refusal list_rules
   list_table long = rw (le-ltb (length numbers) header_fields long)
 

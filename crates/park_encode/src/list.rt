@@ -1,7 +1,7 @@
 // A customer's list of numbers that has as many as its header asks for: its records by their index, and its check.
 ghost use Rattle.std.specs.Prelude.{◌≡◌, ◌≤◌, length};
-ghost use Rattle.park_format.specs.Inner.Recorded.{Recorded};
-ghost use Rattle.park_format.specs.Rules.{refusal_of};
+ghost use Rattle.park_format.specs.Inner.Recorded.{record_rules, Recorded};
+ghost use Rattle.park_format.specs.Rules.{first_broken, refusal_of};
 ghost use Rattle.park_encode.specs.Encode.{IsAcceptedList, list_refusal};
 ghost use Rattle.park_encode.specs.Inner.Counted.{Counted};
 ghost use Rattle.park_encode.specs.Numbers.{header_fields, line_first, list_header, list_park, site_first};
@@ -112,6 +112,13 @@ fn header_of(numbers: &[u32]) -> Header
     }
 }
 
+// The first broken rule of a list's records, if one is broken, and where: a site or a line of the list, counted from 1.
+fn check_records(list: &List<'_>) -> Result<(), Refusal>
+    ensures { refusal_of result ≡ first_broken (record_rules (list_park list.now.numbers.now)) }
+{
+    records::check(list)
+}
+
 // Whether a list keeps the rules, or the first that it breaks and where. It takes numbers of any count.
 pub fn check(numbers: &[u32]) -> Result<(), Refusal>
     ensures { refusal_of result ≡ list_refusal numbers.now }
@@ -125,7 +132,7 @@ pub fn check(numbers: &[u32]) -> Result<(), Refusal>
         0,
     )?;
     let list = List { numbers, header };
-    records::check(&list)
+    check_records(&list)
 }
 
 // The records of a list that keeps the rules. The header is read anew, so that what the check answers fits registers.

@@ -64,7 +64,7 @@ alone_at : (to : ℕ) → to ≤ 16 → get_or alone to 0 ≡ 2 ^ to / 2
 unfolding list_of
 alone_at to h = get_or-list_of (λ (i : ℕ). 2 ^ i / 2) 17 0 to (suc-le-suc h)
 
-has_half_power : (to j : ℕ) → has (2 ^ to / 2) j ≡ eqb to (suc j)
+pub has_half_power : (to j : ℕ) → has (2 ^ to / 2) j ≡ eqb to (suc j)
 has_half_power zero j = has-zero j ∙ sym (eqb-zero-suc j)
 has_half_power (suc t) j = ap (λ (x : ℕ). has x j) (power_half t) ∙ has_power t j ∙ sym (eqb-suc-suc t j)
 

@@ -146,7 +146,7 @@ module _ (reads : ℕ → Site) (lines : List Line) (set low : ℕ) (fed : IsFed
       (up_to_next (input_rules lines) reads low (unfed_below low (le_refl low))
       ∙ row low false (lowest.here h))
 
-  unfed_among : (s : ℕ) → s ≤ most_sites → cond (ltb low s) (some (19, low + 1)) none ≡ first_broken (each (input_rules lines) 1 (list_of reads s))
+  pub unfed_among : (s : ℕ) → s ≤ most_sites → cond (ltb low s) (some (19, low + 1)) none ≡ first_broken (each (input_rules lines) 1 (list_of reads s))
   unfed_among s h = by (ltb low s) refl
     where
       by : (b : Bool) → ltb low s ≡ b → cond b (some (19, low + 1)) none ≡ unfed s

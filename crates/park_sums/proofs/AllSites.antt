@@ -5,10 +5,7 @@ use native.Mathlib.Nat.{eq-or-lt_of_le, le_trans, not-suc-le-zero}
 use native.Mathlib.Omega.{arith}
 use mathlib.Core.Logic.{◌⊎◌, inl, inr}
 use mathlib.Core.Path.{◌≡◌, refl, sym, ap, subst, ◌∙◌}
-use mathlib.Core.Bool.{Bool, true, false}
 use mathlib.Core.List.{List, [], ◌∷◌, ◌++◌}
-use borrow.Author.Tests.{eqb-true, eqb-false}
-use lib.Dec.{eqb}
 use lib.IntN.{ℤ, pos}
 use lib.ListN.{length, get_or-replicate, replicate, set, length-set}
 use lib.Seq.{get_or-set_same, get_or-set_other}
@@ -18,19 +15,13 @@ use Rattle.park_format.specs.declared.line.Line.{Line}
 use Rattle.park_sums.specs.Inner.Rows.{AddsLine, AreLess, AreNear, AreSums, AreTangents, IsDifference, IsLess, IsNear, IsSiteSums, more_at, no_sums, places, Room, size, SmallLine, sums_at, takes_later, tangent_from, WithInput}
 use Rattle.park_sums.specs.declared.walk.SiteSums.{SiteSums}
 use Rattle.park_sums.proofs.Laters.{less_elsewhere, less_here, less_none}
-use Rattle.park_sums.proofs.Nets.{Few, near_room, net_near, sum_room}
+use Rattle.park_sums.proofs.Nets.{Few, near_room, net_near, store as store_each, sum_room}
 use Rattle.park_sums.proofs.OneSite.{input_elsewhere, input_here, sums_none, transit_elsewhere, transit_here}
 
 -- sums that each are P, after a store of what is Q at its place, where P elsewhere is Q
 module _ (P Q : ℕ → SiteSums → Type 0) (sums : List SiteSums) (sites : length sums ≡ places) where
   store : ((k : ℕ) → k < places → P k (sums_at sums k)) → (j : ℕ) → j < places → {s : SiteSums} → Q j s → ((k : ℕ) (x : SiteSums) → (j ≡ k → ⊥) → P k x → Q k x) → (k : ℕ) → k < places → Q k (sums_at (set sums j s) k)
-  store all j h {s} here other k l = by (eqb j k) refl
-    where
-      by : (b : Bool) → eqb j k ≡ b → Q k (sums_at (set sums j s) k)
-      by true e =
-          subst (λ (m : ℕ). Q m (sums_at (set sums j s) m)) (eqb-true j k e) (rw (get_or-set_same sums j s no_sums (omega arith)) here)
-      by false e =
-          rw (get_or-set_other sums j k s no_sums (λ q. eqb-false j k e (sym q))) (other k (sums_at sums k) (eqb-false j k e) (all k l))
+  store all j h here other = store_each P Q places sums no_sums all j (omega arith) here other
 
 -- nothing is added up yet
 abbrev pub nothing_added : SiteSums

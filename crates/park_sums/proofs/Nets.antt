@@ -1,15 +1,16 @@
--- Laws of a row of the walk over the lines: a line more at one of its ends, and how large its numbers are.
+-- Laws of the walk over the lines: a store into one of many places, a line more at one of its ends, and how large the numbers of a row are.
 -- Assumes nothing.
-use Prim.Native.Nat.{ℕ, ◌+◌, ◌≤◌, zero-le}
+use Prim.Native.Nat.{ℕ, ◌+◌, ◌≤◌, ◌<◌, zero-le}
 use native.Mathlib.Nat.{add-le-add, mul-le-mul, le_trans, add-zero}
 use native.Mathlib.Omega.{arith}
-use mathlib.Core.Path.{◌≡◌, refl, sym, ap, ◌∙◌}
+use mathlib.Core.Path.{◌≡◌, refl, sym, ap, subst, ◌∙◌}
 use mathlib.Core.Bool.{Bool, true, false}
 use mathlib.Core.List.{List, [], ◌∷◌, ◌++◌}
-use borrow.Author.Tests.{eq-eqb, ne_eqb}
+use borrow.Author.Tests.{eqb-true, eqb-false, eq-eqb, ne_eqb}
 use lib.Dec.{eqb, lit≤}
 use lib.IntN.{ℤ, pos, ◌+ℤ◌, ◌-ℤ◌}
-use lib.ListN.{length, get_or, get_or-replicate, replicate}
+use lib.ListN.{length, get_or, get_or-replicate, replicate, set}
+use lib.Seq.{get_or-set_same, get_or-set_other}
 use Rattle.park_format.specs.Park.{inputs, transits, select}
 use Rattle.park_format.specs.Rules.{measures_reactive}
 use Rattle.park_format.specs.Accepted.{Every, KeptLine}
@@ -23,6 +24,17 @@ use Rattle.park_sums.specs.Flows.{flow_in}
 use Rattle.park_sums.proofs.Sums.{sum_by_snoc, sum_by-select, sum_small}
 use Rattle.park_sums.proofs.Signed.{difference_le, gained_size, net-gain, take_both}
 use Rattle.park_sums.specs.Inner.Rows.{at, gain, taken, gains, takes, IsDifference, IsNear, IsNet, IsSum, Room, size, SmallLine, when}
+
+-- places that each hold P, after a store of what holds Q, where P elsewhere is Q
+module _ {ℓ} {A : Type ℓ} (P Q : ℕ → A → Type 0) (n : ℕ) (xs : List A) (d : A) where
+  pub store : ((k : ℕ) → k < n → P k (get_or xs k d)) → (j : ℕ) → j < length xs → {v : A} → Q j v → ((k : ℕ) (x : A) → (j ≡ k → ⊥) → P k x → Q k x) → (k : ℕ) → k < n → Q k (get_or (set xs j v) k d)
+  store all j h {v} here other k l = by (eqb j k) refl
+    where
+      by : (b : Bool) → eqb j k ≡ b → Q k (get_or (set xs j v) k d)
+      by true e =
+          subst (λ (m : ℕ). Q m (get_or (set xs j v) m d)) (eqb-true j k e) (rw (get_or-set_same xs j v d h) here)
+      by false e =
+          rw (get_or-set_other xs j k v d (λ q. eqb-false j k e (sym q))) (other k (get_or xs k d) (eqb-false j k e) (all k l))
 
 -- a sum over the chosen lines, with one line more
 module _ (f : Line → ℕ) (test : Line → Bool) (lines : List Line) (l : Line) where

@@ -38,7 +38,7 @@ module _ (k : ℕ) (lines outs : List Line) (l : Line) {before : SiteSums} (b : 
         transits = b.transits;
       }
 
-  input_at : {after : SiteSums} → InputAt k l before after → IsSiteSums k after (lines ++ (l ∷ [])) outs
+  pub input_at : {after : SiteSums} → InputAt k l before after → IsSiteSums k after (lines ++ (l ∷ [])) outs
   input_at {after} s = by (ℕ_discrete l.to k)
     where
       by : Dec (l.to ≡ k) → IsSiteSums k after (lines ++ (l ∷ [])) outs
@@ -63,7 +63,7 @@ module _ (k : ℕ) (ins lines : List Line) (l : Line) {before : SiteSums} (b : I
         transits = lacking_elsewhere (λ (x : Line). eqb x.from k) lines l (ne_eqb l.from k n) b.transits;
       }
 
-  transit_at : {after : SiteSums} → TransitAt k l before after → IsSiteSums k after ins (lines ++ (l ∷ []))
+  pub transit_at : {after : SiteSums} → TransitAt k l before after → IsSiteSums k after ins (lines ++ (l ∷ []))
   transit_at {after} s = by (ℕ_discrete l.from k)
     where
       by : Dec (l.from ≡ k) → IsSiteSums k after ins (lines ++ (l ∷ []))

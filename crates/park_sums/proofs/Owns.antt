@@ -81,11 +81,11 @@ line_more k output lines l so_far one =
     (sym (more produced_of (λ (x : Line). eqb x.to k) lines l))
 
 -- how much it is at most
-pub output_near : (head : Header) (k output : ℕ) (lines : List Line) → output ≤ most_outputs → Few head lines → nat_abs (with_output output (inputs k lines) (transits k lines)) ≤ most_losses
-output_near head k output lines small f =
-    let ins = sum_small (KeptLine head) produced_of most_reading (λ x y. y.produced) (λ (x : Line). eqb x.to k) lines f.kept f.few in
-    let outs = sum_small (KeptLine head) produced_of most_reading (λ x y. y.produced) (λ (x : Line). eqb x.from k) lines f.kept f.few in
-    difference_le (output + produced (transits k lines)) (produced (inputs k lines)) (omega (arith, outs, small)) (omega (arith, ins))
+pub output_near : (head : Header) (k output : ℕ) (into out : List Line) → output ≤ most_outputs → Few head into → Few head out → nat_abs (with_output output (inputs k into) (transits k out)) ≤ most_losses
+output_near head k output into out small i o =
+    let ins = sum_small (KeptLine head) produced_of most_reading (λ x y. y.produced) (λ (x : Line). eqb x.to k) into i.kept i.few in
+    let outs = sum_small (KeptLine head) produced_of most_reading (λ x y. y.produced) (λ (x : Line). eqb x.from k) out o.kept o.few in
+    difference_le (output + produced (transits k out)) (produced (inputs k into)) (omega (arith, outs, small)) (omega (arith, ins))
 
 -- the generators of an accepted park
 module _ (p : Park) (recorded : Recorded p) (keeps : KeepsRules p) where

@@ -107,15 +107,14 @@ fn add_line(bounded: BoundedLine, sums: &mut [SiteSums; PLACES])
     sums[from] = sums[from].with_transit(bounded);
 }
 
-// Adds up each line at both its ends.
-pub fn sums<P: Accepted>(park: &P) -> [SiteSums; PLACES]
-    ensures { AreSums result (P.park park.now).lines (P.park park.now).lines }
+// Adds up each line at both its ends, in an array that is lent, whatever it held.
+pub fn sums<P: Accepted>(park: &P, sums: &mut [SiteSums; PLACES])
+    ensures { AreSums sums.new (P.park park.now).lines (P.park park.now).lines }
 {
-    let mut sums = [SiteSums::NONE; PLACES];
+    *sums = [SiteSums::NONE; PLACES];
     for i in 0..park.header().lines {
-        add_line(BoundedLine::of(park, i), &mut sums);
+        add_line(BoundedLine::of(park, i), sums);
     }
-    sums
 }
 
 // The tangent of each site, from the rows of the first walk and what its generators add.

@@ -13,7 +13,7 @@ use Rattle.park_format.specs.Limits.{most_sites}
 use Rattle.park_bill.specs.Bill.{bill_numbers}
 use Rattle.park_text.specs.Text.{bill_text, comma, decimal, fields_text, names_text, site_text, sites_text}
 
-fields_append : (a b : List ℕ) → fields_text (a ++ b) ≡ fields_text a ++ fields_text b
+pub fields_append : (a b : List ℕ) → fields_text (a ++ b) ≡ fields_text a ++ fields_text b
 unfolding fields_text
 fields_append [] b = refl
 fields_append (n ∷ a) b = ap (λ (rest : List ℕ). (comma ∷ decimal n) ++ rest) (fields_append a b) ∙ sym (append_assoc (comma ∷ decimal n) (fields_text a) (fields_text b))

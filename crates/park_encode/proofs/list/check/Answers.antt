@@ -24,4 +24,4 @@ invariant_of-list c =
 pub returns : goal.returns
 returns c =
     let numbers = c.args.numbers.now in
-    c.check-2.ensures ∙ list_decides numbers (looked numbers c.header_of-header.ensures c.line_start.ensures (c.in_ok-at_place.ensures ∙ c.check.ensures))
+    c.check_records.ensures ∙ list_decides numbers (looked numbers c.header_of-header.ensures c.line_start.ensures (c.in_ok-at_place.ensures ∙ c.check.ensures))

@@ -21,13 +21,13 @@ loop-i-init g c = to_z_pos w64 c.args.output (omega arith) ∙ no_lines c.args.s
 pub with_line-sum-requires : goal.with_line-sum-requires
 with_line-sum-requires g c =
     let t = turned g (goal.at-with_line-sum-requires g c).After-line in
-    (rw c.loop-i.invariant (output_near _ c.args.site c.args.output _ c.requires.small t.earlier), t.keeps.produced)
+    (rw c.loop-i.invariant (output_near _ c.args.site c.args.output _ _ c.requires.small t.earlier t.earlier), t.keeps.produced)
 
 pub loop-i-preserved : goal.loop-i-preserved
 loop-i-preserved g c =
     let t = turned g (goal.at-loop-i-preserved g c).After-line in
     let is = line_more c.args.site c.args.output (take c.loop-i.i (g.P.Records.park c.args.park.now).lines) c.line.result c.loop-i.invariant c.with_line-sum.ensures in
-    let near = output_near _ c.args.site c.args.output _ c.requires.small t.next in
+    let near = output_near _ c.args.site c.args.output _ _ c.requires.small t.next t.next in
     let fits = subst (SFits w64) (sym is) (near_fits _ (le_trans near (lit≤ tt))) in
     rw t.more (read_whole _ fits ∙ is)
 
@@ -35,4 +35,4 @@ pub returns-clause-most : goal.returns-clause-most
 returns-clause-most g c =
     let x = c.args.park.now in
     let few = first_few (g.P.Records.park x) (g.met.P.Records.recorded x) (g.met.P.Accepted.kept x) c.loop-i.i in
-    rw c.loop-i.invariant (le_trans (output_near _ c.args.site c.args.output _ c.requires.small few) (lit≤ tt))
+    rw c.loop-i.invariant (le_trans (output_near _ c.args.site c.args.output _ _ c.requires.small few few) (lit≤ tt))
